@@ -1,0 +1,9 @@
+pub mod ArrayPrefix
+pub mod Blocks
+pub mod KeptLemmas
+pub mod Laws
+pub mod LedgerLaws
+pub mod Ledgers
+pub mod Prefix
+pub mod Stored
+pub mod StoredLaws
