@@ -1,0 +1,10 @@
+pub mod Handles
+pub mod Runs
+pub mod Views
+pub mod Rule
+pub mod Rows
+pub mod Tells
+pub mod Held
+pub mod Records
+pub mod Shared
+pub mod SharedSlices

@@ -1,0 +1,25 @@
+//! Counted handles: a value that threads share, exact counts of its strong and weak handles in one
+//! word, and the value given back once, to whoever ends the last strong handle.
+#![tactic(auto)]
+
+mod fault;
+pub mod laws;
+mod machine;
+mod slice;
+mod slice_traits;
+mod spent;
+mod strong;
+mod view;
+mod weak;
+mod word_steps;
+
+pub use fault::{CountFault, TryCountFault};
+pub use machine::{HandleMachine, Reply, Step, ValueState};
+pub use slice::{ArcSlice, WeakSlice};
+pub use spent::Spent;
+pub use strong::Arc;
+pub use view::{Note, View};
+pub use weak::Weak;
+
+#[cfg(test)]
+mod tests;

@@ -1,0 +1,514 @@
+//! Strong handles.
+ghost use Rattle.std.specs.Prelude.{◌≡◌, ◌+◌, ◌≤◌, is_some};
+ghost use Rattle.stabby_count.specs.Held.{kind_by, sole_by};
+ghost use Rattle.stabby_count_word.specs.Kinds.{last};
+
+use crate::fault::{CountFault, TryCountFault};
+use crate::spent::Spent;
+use crate::view::View;
+use crate::weak::Weak;
+use crate::word_steps::{
+    Clone as CloneStep, Downgrade, EndSole, EndStrong, GiveStrong, GiveWeak, Look, LookSole, Rest,
+    SharedCounts, Take,
+};
+use stabby_count_word::{CountWord, Permission, Seat};
+use stabby_layout::AllocationError;
+use std::alloc::{AllocError, AllocFailed, Global};
+use std::mem;
+use std::ops::Deref;
+use std::sync::{Arc as Block, Wait};
+
+pub(crate) const COUNT_LIMIT: u64 = 4294967295;
+
+pub(crate) const ONE_STRONG: u64 = 4294967296;
+
+const ALONE: u64 = 4294967297;
+
+/// A strong handle of a shared value.
+///
+/// The value is there for as long as a strong handle is. Whoever ends the last one gets it. A handle that
+/// is the only one may change it.
+pub struct Arc<T> {
+    pub(crate) block: Block<CountWord<T, View, SharedCounts>, Global>,
+    pub(crate) seat: Seat<View>,
+    pub(crate) permission: Permission<T>,
+    // The value's box, while the handle is sole and has lent it.
+    pub(crate) own: Option<Box<T>>,
+    pub(crate) alloc: Global,
+    ghost one_word: { (seat.views ≡ block.value.views) × (permission.word_names ≡ block.value) },
+    ghost one_share: { (permission.kind ≡ kind_by (is_some own)) × (seat.view.strong ≡ 1) × (seat.view.weak ≡ 0) },
+    ghost sole_while_lent: { sole_by (is_some own) ≤ seat.view.sole },
+}
+
+impl<T> Arc<T> {
+    ghost use Rattle.std.specs.Prelude.{◌≡◌, ◌==◌, ◌<◌, ◌≤◌, ℕ, IsTrue, true};
+    ghost use Rattle.stabby_count.specs.Shared.{arc_value, arc_block, arc_record, IsSole};
+    ghost use Rattle.stabby_count.specs.Records.{AddsLook, ReadsAlone, strong_of, weak_of};
+
+    fn get(&self) -> &T
+        ensures { result.now ≡ arc_value self.now }
+    {
+        match &self.own {
+            Some(boxed) => &**boxed,
+            None => self.permission.get(),
+        }
+    }
+
+    /// How many strong handles there are, from one read of the word.
+    pub fn strong_count(&mut self) -> u64
+        ensures count { (n : ℕ) × (result ≡ strong_of n) × AddsLook (arc_record self.old) (arc_record self.new) n }
+        ensures at_least_one { 0 < result }
+        ensures sole { IsSole self.old → (result ≡ 1) × IsSole self.new }
+        ensures kept { (arc_value self.new ≡ arc_value self.old) × (arc_block self.new ≡ arc_block self.old) }
+    {
+        self.block.look::<Look>(&mut self.seat) / ONE_STRONG
+    }
+
+    /// How many weak handles there are, and one more, from one read of the word.
+    pub fn weak_count(&mut self) -> u64
+        ensures count { (n : ℕ) × (result ≡ weak_of n) × AddsLook (arc_record self.old) (arc_record self.new) n }
+        ensures at_least_one { 0 < result }
+        ensures sole { IsSole self.old → (result ≡ 1) × IsSole self.new }
+        ensures kept { (arc_value self.new ≡ arc_value self.old) × (arc_block self.new ≡ arc_block self.old) }
+    {
+        self.block.look::<Look>(&mut self.seat) % ONE_STRONG
+    }
+
+    /// Whether this is the only handle, from one read of the word.
+    pub fn is_unique(&mut self) -> bool
+        ensures unique { ReadsAlone (arc_record self.old) (arc_record self.new) result }
+        ensures sole { IsSole self.old → IsTrue result }
+        ensures becomes_sole { IsTrue result → IsSole self.new }
+        ensures kept { (arc_value self.new ≡ arc_value self.old) × (arc_block self.new ≡ arc_block self.old) }
+    {
+        self.block.look::<LookSole>(&mut self.seat) == ALONE
+    }
+}
+
+impl<T> Deref for Arc<T> {
+    type Target = T;
+
+    ghost use Rattle.std.specs.Prelude.{◌≡◌};
+    ghost use Rattle.stabby_count.specs.Shared.{arc_value};
+
+    ghost deref_gives = { λ a x. x ≡ arc_value a };
+
+    fn deref(&self) -> &T
+        ensures { result.now ≡ arc_value self.now }
+    {
+        self.get()
+    }
+}
+
+impl<T> Arc<T> {
+    ghost use Rattle.std.specs.Borrow.{LendsSo, sem};
+    ghost use Rattle.std.specs.Prelude.{◌≡◌, ◌≢◌, ◌==◌, ◌<◌, ℕ, IsTrue, IfSome, MatchOption, true, false, is_some};
+    ghost use Rattle.stabby_count.specs.Held.{held_or};
+    ghost use Rattle.stabby_count.specs.Shared.{arc_value, arc_block, arc_record, IsSole, IsLent};
+    ghost use Rattle.stabby_count.specs.Records.{ReadsAlone};
+    ghost use Rattle.stabby_count.specs.contracts.strong.Arc.{the_row};
+
+    // One read. Where it is of one strong and one weak, the handle has its value in a box.
+    pub(crate) fn seize(&mut self) -> bool
+        ensures read { ReadsAlone (arc_record self.old) (arc_record self.new) result }
+        ensures boxed { is_some self.new.own ≡ result }
+        ensures sole { IsSole self.old → IsTrue result }
+        ensures becomes_sole { IsTrue result → IsSole self.new }
+        ensures kept { (arc_value self.new ≡ arc_value self.old) × (arc_block self.new ≡ arc_block self.old) }
+    {
+        if self.own.is_some() {
+            let word = self.block.look::<LookSole>(&mut self.seat);
+            return word == ALONE;
+        }
+        let word = self
+            .block
+            .seize::<LookSole>(&mut self.seat, &mut self.permission);
+        if word != ALONE {
+            return false;
+        }
+        let boxed = self.permission.take_box(self.alloc);
+        match mem::replace(&mut self.own, Some(boxed)) {
+            None => true,
+            Some(_) => unreachable!(),
+        }
+    }
+
+    fn lend(&mut self) -> Option<&mut T>
+        ensures* writes_back { sem 𝓛 (LendsSo (the_row T.row) T.row self.entry result (λ n w. (is_some n.own ≡ is_some self.old.own) × (held_or n.own (λ b. b.value) w ≡ w) × (n.seat ≡ self.old.seat)) (λ n. (n.own ≡ self.old.own) × (n.permission ≡ self.old.permission) × (n.seat ≡ self.old.seat))) }
+        ensures value { MatchOption result (is_some self.old.own ≡ false) (λ r. (is_some self.old.own ≡ true) × (r.now ≡ arc_value self.old)) }
+    {
+        match &mut self.own {
+            Some(boxed) => Some(&mut **boxed),
+            None => None,
+        }
+    }
+
+    /// The value to be changed, where this is the only handle.
+    ///
+    /// `None` comes exactly where the word read isn't one strong and one weak. What is written through
+    /// the reference is the value of all later handles.
+    pub fn get_mut(&mut self) -> Option<&mut T>
+        ensures* writes_back { sem 𝓛 (LendsSo (the_row T.row) T.row self.entry result (λ n w. IsLent self.old n w (is_some result)) (λ n. IsLent self.old n (arc_value self.old) (is_some result))) }
+        ensures value { IfSome result (λ r. r.now ≡ arc_value self.old) }
+        ensures sole { IsSole self.old → is_some result ≡ true }
+    {
+        if self.seize() { self.lend() } else { None }
+    }
+}
+
+impl<T: Drop> Arc<T> {
+    ghost use Rattle.std.specs.Prelude.{◌≡◌, ◌<◌, ◌+◌, ℕ, IfOk, IfErr, MatchResult, None};
+    ghost use Rattle.stabby_count.specs.Shared.{arc_value, arc_block, arc_record, weak_value, weak_block, weak_record, IsSole};
+    ghost use Rattle.stabby_count.specs.Records.{AddsStep, RefusesTry, strong_of, weak_of};
+    ghost use Rattle.stabby_count.specs.Handles.{count_limit};
+    ghost use Rattle.stabby_count.specs.declared.machine.Step.TheVariants.{Clone as CloneNote, Downgrade as DowngradeNote};
+    ghost use Rattle.stabby_count.specs.declared.fault.TryCountFault.TheVariants.{Memory};
+
+    // A box that was lent goes back to the block, for others to share.
+    fn settle(&mut self)
+        ensures own { self.new.own ≡ None }
+        ensures seat { (self.new.seat.views ≡ self.old.seat.views) × (self.new.seat.view ≡ self.old.seat.view) }
+        ensures value { arc_value self.new ≡ arc_value self.old }
+    {
+        if let Some(boxed) = self.own.take() {
+            let none = self.permission.split();
+            let permission = mem::replace(&mut self.permission, none).put_box(boxed);
+            mem::replace(&mut self.permission, permission).done();
+            self.block
+                .give_back::<Rest>(&mut self.seat, &mut self.permission);
+        }
+    }
+
+    /// One more strong handle of the same value, by one try.
+    pub fn try_clone(&mut self) -> Result<Arc<T>, TryCountFault>
+        ensures value { IfOk result (λ other. arc_value other ≡ arc_value self.old) }
+        ensures block { IfOk result (λ other. arc_block other ≡ arc_block self.old) }
+        ensures added { IfOk result (λ other. (n : ℕ) × (strong_of n < count_limit) × AddsStep CloneNote (arc_record self.old) (arc_record self.new) n) }
+        ensures copied { IfOk result (λ other. arc_record other ≡ arc_record self.new) }
+        ensures fault { IfErr result (RefusesTry strong_of (arc_record self.old) (arc_record self.new)) }
+        ensures sole { IsSole self.old → IfErr result (λ fault. fault ≡ Memory) }
+        ensures kept { (arc_value self.new ≡ arc_value self.old) × (arc_block self.new ≡ arc_block self.old) }
+    {
+        self.settle();
+        let Ok(block) = Block::try_clone(&self.block) else {
+            return Err(TryCountFault::Memory);
+        };
+        let first = self.block.look::<Look>(&mut self.seat);
+        if first / ONE_STRONG == COUNT_LIMIT {
+            return Err(TryCountFault::Full { word: first });
+        }
+        let second = self.block.clone_strong::<CloneStep>(
+            &mut self.seat,
+            &mut self.permission,
+            first,
+            first + ONE_STRONG,
+        );
+        if second != first {
+            return Err(TryCountFault::Moved { first, second });
+        }
+        let permission = self.permission.split();
+        let seat = self.block.split_seat::<GiveStrong>(&mut self.seat);
+        Ok(Arc {
+            block,
+            seat,
+            permission,
+            own: None,
+            alloc: self.alloc,
+        })
+    }
+
+    /// One weak handle of the same value, by one try.
+    pub fn try_downgrade(&mut self) -> Result<Weak<T>, TryCountFault>
+        ensures value { IfOk result (λ weak. weak_value weak ≡ arc_value self.old) }
+        ensures block { IfOk result (λ weak. weak_block weak ≡ arc_block self.old) }
+        ensures added { IfOk result (λ weak. (n : ℕ) × (weak_of n < count_limit) × AddsStep DowngradeNote (arc_record self.old) (arc_record self.new) n) }
+        ensures copied { IfOk result (λ weak. weak_record weak ≡ arc_record self.new) }
+        ensures fault { IfErr result (RefusesTry weak_of (arc_record self.old) (arc_record self.new)) }
+        ensures sole { IsSole self.old → IfErr result (λ fault. fault ≡ Memory) }
+        ensures kept { (arc_value self.new ≡ arc_value self.old) × (arc_block self.new ≡ arc_block self.old) }
+    {
+        self.settle();
+        let Ok(block) = Block::try_clone(&self.block) else {
+            return Err(TryCountFault::Memory);
+        };
+        let first = self.block.look::<Look>(&mut self.seat);
+        if first % ONE_STRONG == COUNT_LIMIT {
+            return Err(TryCountFault::Full { word: first });
+        }
+        let second = self
+            .block
+            .downgrade::<Downgrade>(&mut self.seat, &mut self.permission, first, first + 1);
+        if second != first {
+            return Err(TryCountFault::Moved { first, second });
+        }
+        let permission = self.permission.split();
+        let seat = self.block.split_seat::<GiveWeak>(&mut self.seat);
+        Ok(Weak {
+            block,
+            seat,
+            permission,
+            alloc: self.alloc,
+        })
+    }
+}
+
+impl<T: Drop> Arc<T> {
+    ghost use Rattle.std.specs.Prelude.{◌≡◌, IfOk, IfErr};
+    ghost use Rattle.stabby_count.specs.Shared.{arc_value, arc_block, arc_record, weak_value, weak_block, weak_record};
+    ghost use Rattle.stabby_count.specs.Records.{RaisesAfterLooks, Refuses, strong_of, weak_of};
+    ghost use Rattle.stabby_count.specs.declared.machine.Step.TheVariants.{Clone as CloneNote, Downgrade as DowngradeNote};
+
+    /// One more strong handle of the same value. It tries again where another handle was in the way.
+    pub fn clone<H: Wait>(&mut self, rt: &H) -> Result<Arc<T>, CountFault>
+        ensures value { IfOk result (λ other. arc_value other ≡ arc_value self.old) }
+        ensures block { IfOk result (λ other. arc_block other ≡ arc_block self.old) }
+        ensures added { IfOk result (λ other. RaisesAfterLooks CloneNote strong_of (arc_record self.old) (arc_record self.new)) }
+        ensures copied { IfOk result (λ other. arc_record other ≡ arc_record self.new) }
+        ensures fault { IfErr result (Refuses strong_of (arc_record self.old) (arc_record self.new)) }
+        ensures kept { (arc_value self.new ≡ arc_value self.old) × (arc_block self.new ≡ arc_block self.old) }
+    {
+        for _ in rt.forever() {
+            match self.try_clone() {
+                Ok(other) => return Ok(other),
+                Err(
+                    TryCountFault::Moved {
+                        first: _,
+                        second: _,
+                    },
+                ) => {}
+                Err(TryCountFault::Full { word }) => return Err(CountFault::Full { word }),
+                Err(TryCountFault::Memory) => return Err(CountFault::Memory),
+            }
+        }
+        unreachable!()
+    }
+
+    /// One weak handle of the same value. It tries again where another handle was in the way.
+    pub fn downgrade<H: Wait>(&mut self, rt: &H) -> Result<Weak<T>, CountFault>
+        ensures value { IfOk result (λ weak. weak_value weak ≡ arc_value self.old) }
+        ensures block { IfOk result (λ weak. weak_block weak ≡ arc_block self.old) }
+        ensures added { IfOk result (λ weak. RaisesAfterLooks DowngradeNote weak_of (arc_record self.old) (arc_record self.new)) }
+        ensures copied { IfOk result (λ weak. weak_record weak ≡ arc_record self.new) }
+        ensures fault { IfErr result (Refuses weak_of (arc_record self.old) (arc_record self.new)) }
+        ensures kept { (arc_value self.new ≡ arc_value self.old) × (arc_block self.new ≡ arc_block self.old) }
+    {
+        for _ in rt.forever() {
+            match self.try_downgrade() {
+                Ok(weak) => return Ok(weak),
+                Err(
+                    TryCountFault::Moved {
+                        first: _,
+                        second: _,
+                    },
+                ) => {}
+                Err(TryCountFault::Full { word }) => return Err(CountFault::Full { word }),
+                Err(TryCountFault::Memory) => return Err(CountFault::Memory),
+            }
+        }
+        unreachable!()
+    }
+}
+
+// Takes the value that is due to the seat.
+fn take_value<T>(
+    word: &CountWord<T, View, SharedCounts>,
+    seat: &mut Seat<View>,
+    mut permission: Permission<T>,
+    alloc: Global,
+) -> T
+    requires due { (seat.old.view.due ≡ 1) × (seat.old.views ≡ word.now.views) }
+    requires last { (permission.kind ≡ last) × (permission.word_names ≡ word.now) }
+    ensures { result ≡ permission.value }
+{
+    let mut unit = permission.split();
+    word.end_weak::<Take>(seat, &mut unit);
+    unit.done();
+    Box::into_inner(permission.into_box(alloc))
+}
+
+impl<T: Drop> Arc<T> {
+    ghost use Rattle.std.specs.Prelude.{◌≡◌, ◌≢◌, ◌<◌, ◌++◌, ◌∷◌, [], ℕ, IfOk, IfErr, IsOk, MatchResult, None};
+    ghost use Rattle.stabby_count.specs.Shared.{arc_value, arc_block, arc_record, spent_block, spent_record, spent_word, IsSole};
+    ghost use Rattle.stabby_count.specs.Records.{AddsLook, note, strong_of, alone};
+    ghost use Rattle.stabby_count.specs.declared.machine.Step.TheVariants.{EndStrong as EndNote};
+    ghost use Rattle.stabby_layout.specs.declared.error.AllocationError.TheVariants.{Memory};
+
+    /// Shares a value. The handle is sole, and its record empty.
+    ///
+    /// Where there is no memory the value comes back.
+    pub fn try_new_in(alloc: Global, value: T) -> Result<Arc<T>, (T, AllocationError)>
+        ensures value { IfOk result (λ made. arc_value made ≡ value) }
+        ensures sole { IfOk result IsSole }
+        ensures new_record { IfOk result (λ made. arc_record made ≡ []) }
+        ensures refused { IfErr result (λ back. back ≡ (value, Memory)) }
+    {
+        let boxed = match Box::new(alloc, value) {
+            Ok(boxed) => boxed,
+            Err(AllocFailed { value }) => return Err((value, AllocationError::Memory)),
+        };
+        let (word, mut seat, mut permission) = CountWord::share(boxed);
+        match Block::new(alloc, word) {
+            Ok(block) => Ok(Arc {
+                block,
+                seat,
+                permission,
+                own: None,
+                alloc,
+            }),
+            Err(AllocFailed { value: word }) => {
+                word.end_strong::<EndStrong>(&mut seat, &mut permission);
+                let value = take_value(&word, &mut seat, permission, alloc);
+                Err((value, AllocationError::Memory))
+            }
+        }
+    }
+
+    // The end of a handle whose value is in the block.
+    fn finish(self) -> Result<T, Spent>
+        requires { self.own ≡ None }
+        ensures value { IfOk result (λ value. value ≡ arc_value self) }
+        ensures spent { IfErr result (λ spent. (1 < strong_of (spent_word spent)) × (spent_block spent ≡ arc_block self)) }
+        ensures added { IfErr result (λ spent. spent_record spent ≡ arc_record self ++ note EndNote (spent_word spent) ∷ []) }
+        ensures sole { IsSole self → IsOk result }
+    {
+        let Arc {
+            block,
+            mut seat,
+            mut permission,
+            own,
+            alloc,
+        } = self;
+        drop(own);
+        let word = block.end_strong::<EndStrong>(&mut seat, &mut permission);
+        if word / ONE_STRONG != 1 {
+            permission.done();
+            return Err(Spent { seat, word });
+        }
+        Ok(take_value(&block, &mut seat, permission, alloc))
+    }
+
+    /// Ends the handle by one step. The value comes exactly where that step read one strong.
+    pub fn end(self) -> Result<T, Spent>
+        ensures value { IfOk result (λ value. value ≡ arc_value self) }
+        ensures spent { IfErr result (λ spent. (1 < strong_of (spent_word spent)) × (spent_block spent ≡ arc_block self)) }
+        ensures added { IfErr result (λ spent. spent_record spent ≡ arc_record self ++ note EndNote (spent_word spent) ∷ []) }
+        ensures sole { IsSole self → IsOk result }
+    {
+        let mut whole = self;
+        whole.settle();
+        whole.finish()
+    }
+
+    // One exchange, by a handle whose value is in the block.
+    fn end_sole(self) -> Result<T, Arc<T>>
+        requires { self.own ≡ None }
+        ensures value { MatchResult result (λ value. value ≡ arc_value self) (λ back. arc_value back ≡ arc_value self) }
+        ensures shared { IfErr result (λ back. (n : ℕ) × (n ≢ alone) × AddsLook (arc_record self) (arc_record back) n) }
+        ensures block { IfErr result (λ back. arc_block back ≡ arc_block self) }
+        ensures sole { IsSole self → IsOk result }
+    {
+        let Arc {
+            block,
+            mut seat,
+            mut permission,
+            own,
+            alloc,
+        } = self;
+        let word = block.end_sole::<EndSole>(&mut seat, &mut permission, ALONE, 1);
+        if word != ALONE {
+            return Err(Arc {
+                block,
+                seat,
+                permission,
+                own,
+                alloc,
+            });
+        }
+        drop(own);
+        Ok(take_value(&block, &mut seat, permission, alloc))
+    }
+
+    /// The value, where this is the only handle, by one exchange.
+    ///
+    /// The handle comes back exactly where the exchange read a word that isn't one strong and one weak.
+    pub fn try_into_inner(self) -> Result<T, Arc<T>>
+        ensures value { MatchResult result (λ value. value ≡ arc_value self) (λ back. arc_value back ≡ arc_value self) }
+        ensures shared { IfErr result (λ back. (n : ℕ) × (n ≢ alone) × AddsLook (arc_record self) (arc_record back) n) }
+        ensures block { IfErr result (λ back. arc_block back ≡ arc_block self) }
+        ensures sole { IsSole self → IsOk result }
+    {
+        let mut whole = self;
+        whole.settle();
+        whole.end_sole()
+    }
+}
+
+impl<T: Clone + Drop> Arc<T> {
+    ghost use Rattle.std.specs.Borrow.{LendsSoOk, sem};
+    ghost use Rattle.std.specs.Prelude.{◌≡◌, ◌⊎◌, ℕ, IfOk, IfErr, IsOk, OnErr, OnOk, MatchResult, is_some, true, false};
+    ghost use Rattle.stabby_count.specs.Held.{held_or};
+    ghost use Rattle.stabby_count.specs.Shared.{arc_value, arc_block, arc_record, IsSole};
+    ghost use Rattle.stabby_count.specs.contracts.strong.Arc.{the_row};
+    ghost use Rattle.stabby_layout.specs.declared.error.AllocationError.TheVariants.{Memory};
+
+    fn lend_owned(&mut self) -> Result<&mut T, AllocationError>
+        ensures* writes_back { sem 𝓛 (LendsSoOk (the_row T.row) T.row self.entry result (λ n w. (held_or n.own (λ b. b.value) w ≡ w) × (is_some n.own ≡ is_some self.old.own) × (n.seat ≡ self.old.seat)) (λ n. (n.own ≡ self.old.own) × (n.permission ≡ self.old.permission) × (n.seat ≡ self.old.seat))) }
+        ensures value { MatchResult result (λ r. (is_some self.old.own ≡ true) × (r.now ≡ arc_value self.old)) (λ error. (is_some self.old.own ≡ false) × (error ≡ Memory)) }
+    {
+        match &mut self.own {
+            Some(boxed) => Ok(&mut **boxed),
+            None => Err(AllocationError::Memory),
+        }
+    }
+
+    // A handle of its own, where the value was shared.
+    fn part_ways(&mut self, alloc: Global) -> Result<(), AllocationError>
+        ensures own { OnOk result (is_some self.new.own ≡ true) }
+        ensures sole { OnOk result (IsSole self.new) }
+        ensures value { OnOk result ((arc_value self.new ≡ arc_value self.old) ⊎ T.is_clone (arc_value self.old) (arc_value self.new)) }
+        ensures was_sole { IsSole self.old → OnOk result ((arc_value self.new ≡ arc_value self.old) × (arc_block self.new ≡ arc_block self.old)) }
+        ensures refused { OnErr result ((arc_value self.new ≡ arc_value self.old) × (arc_block self.new ≡ arc_block self.old)) }
+        ensures error { IfErr result (λ error. error ≡ Memory) }
+        ensures sole_succeeds { IsSole self.old → IsOk result }
+    {
+        if self.seize() {
+            return Ok(());
+        }
+        let value = self.get().clone()?;
+        match Arc::try_new_in(alloc, value) {
+            Ok(fresh) => {
+                drop(mem::replace(self, fresh));
+                self.seize();
+                Ok(())
+            }
+            Err((value, error)) => {
+                drop(value);
+                Err(error)
+            }
+        }
+    }
+
+    /// The value to be changed, by a handle that is the only one from then on.
+    ///
+    /// Where the word read isn't one strong and one weak, the value is cloned into a new block and the old
+    /// handle ends. A refusal leaves the handle and its value as they were.
+    pub fn make_mut(&mut self, alloc: Global) -> Result<&mut T, AllocationError>
+        ensures* writes_back { sem 𝓛 (LendsSoOk (the_row T.row) T.row self.entry result (λ n w. (arc_value n ≡ w) × IsSole n × (IsSole self.old → arc_block n ≡ arc_block self.old)) (λ n. (arc_value n ≡ arc_value self.old) × (arc_block n ≡ arc_block self.old))) }
+        ensures value { IfOk result (λ r. (r.now ≡ arc_value self.old) ⊎ T.is_clone (arc_value self.old) r.now) }
+        ensures sole { IsSole self.old → IfOk result (λ r. r.now ≡ arc_value self.old) }
+        ensures sole_succeeds { IsSole self.old → IsOk result }
+        ensures error { IfErr result (λ error. error ≡ Memory) }
+    {
+        self.part_ways(alloc)?;
+        self.lend_owned()
+    }
+}
+
+/// Ends the handle as `end` does, and lets the value go where it comes.
+impl<T: Drop> Drop for Arc<T> {
+    fn drop(self) {
+        if let Ok(value) = self.end() {
+            drop(value);
+        }
+    }
+}

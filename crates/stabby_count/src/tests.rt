@@ -1,0 +1,5 @@
+//! What no clause says.
+mod handles;
+mod machine;
+mod slices;
+mod threads;

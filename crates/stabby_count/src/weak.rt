@@ -1,0 +1,181 @@
+//! Weak handles.
+ghost use Rattle.std.specs.Prelude.{◌≡◌};
+ghost use Rattle.stabby_count_word.specs.Kinds.{one_weak};
+
+use crate::fault::{CountFault, TryCountFault};
+use crate::spent::Spent;
+use crate::strong::{Arc, COUNT_LIMIT, ONE_STRONG};
+use crate::view::View;
+use crate::word_steps::{Downgrade, EndWeak, GiveStrong, GiveWeak, Look, SharedCounts, Upgrade};
+use stabby_count_word::{CountWord, Permission, Seat};
+use std::alloc::Global;
+use std::mem;
+use std::sync::{Arc as Block, Wait};
+
+/// A weak handle of a shared value: it can be upgraded while a strong handle is there.
+pub struct Weak<T> {
+    pub(crate) block: Block<CountWord<T, View, SharedCounts>, Global>,
+    pub(crate) seat: Seat<View>,
+    pub(crate) permission: Permission<T>,
+    pub(crate) alloc: Global,
+    ghost one_word: { (seat.views ≡ block.value.views) × (permission.word_names ≡ block.value) },
+    ghost one_share: { (permission.kind ≡ one_weak) × (seat.view.strong ≡ 0) × (seat.view.weak ≡ 1) × (seat.view.sole ≡ 0) },
+}
+
+impl<T> Weak<T> {
+    ghost use Rattle.std.specs.Prelude.{◌≡◌, ◌<◌, ◌++◌, ◌∷◌, [], ℕ, List, IfOk, IfErr, IfSome, IfNone};
+    ghost use Rattle.stabby_count.specs.Shared.{arc_value, arc_block, arc_record, weak_value, weak_block, weak_record, spent_block, spent_record, spent_word};
+    ghost use Rattle.stabby_count.specs.Records.{AddsLook, AddsLooks, AddsStep, RaisesAfterLooks, Refuses, RefusesTry, UpgradesAfterLooks, FindsNone, note, strong_of, weak_of};
+    ghost use Rattle.stabby_count.specs.declared.view.Note.{Note};
+    ghost use Rattle.stabby_count.specs.Handles.{count_limit};
+    ghost use Rattle.stabby_count.specs.declared.machine.Step.TheVariants.{Downgrade as DowngradeNote, Upgrade as UpgradeNote, EndWeak as EndNote};
+
+    /// A strong handle of the same value, by one try. `None` comes only where the word read had no strong handle.
+    pub fn try_upgrade(&mut self) -> Result<Option<Arc<T>>, TryCountFault>
+        ensures value { IfOk result (λ found. IfSome found (λ strong. arc_value strong ≡ weak_value self.old)) }
+        ensures block { IfOk result (λ found. IfSome found (λ strong. arc_block strong ≡ weak_block self.old)) }
+        ensures added { IfOk result (λ found. IfSome found (λ strong. (n : ℕ) × (0 < strong_of n) × (strong_of n < count_limit) × AddsStep UpgradeNote (weak_record self.old) (weak_record self.new) n)) }
+        ensures copied { IfOk result (λ found. IfSome found (λ strong. arc_record strong ≡ weak_record self.new)) }
+        ensures none { IfOk result (λ found. IfNone found (FindsNone (weak_record self.old) (weak_record self.new))) }
+        ensures fault { IfErr result (RefusesTry strong_of (weak_record self.old) (weak_record self.new)) }
+        ensures kept { (weak_value self.new ≡ weak_value self.old) × (weak_block self.new ≡ weak_block self.old) }
+    {
+        let Ok(block) = Block::try_clone(&self.block) else {
+            return Err(TryCountFault::Memory);
+        };
+        let first = self.block.look::<Look>(&mut self.seat);
+        if first / ONE_STRONG == 0 {
+            return Ok(None);
+        }
+        if first / ONE_STRONG == COUNT_LIMIT {
+            return Err(TryCountFault::Full { word: first });
+        }
+        let second = self.block.upgrade::<Upgrade>(
+            &mut self.seat,
+            &mut self.permission,
+            first,
+            first + ONE_STRONG,
+        );
+        if second != first {
+            return Err(TryCountFault::Moved { first, second });
+        }
+        let kept = self.permission.split();
+        let permission = mem::replace(&mut self.permission, kept);
+        let seat = self.block.split_seat::<GiveStrong>(&mut self.seat);
+        Ok(Some(Arc {
+            block,
+            seat,
+            permission,
+            own: None,
+            alloc: self.alloc,
+        }))
+    }
+
+    fn try_clone(&mut self) -> Result<Weak<T>, TryCountFault>
+        ensures value { IfOk result (λ other. weak_value other ≡ weak_value self.old) }
+        ensures block { IfOk result (λ other. weak_block other ≡ weak_block self.old) }
+        ensures added { IfOk result (λ other. (n : ℕ) × (weak_of n < count_limit) × AddsStep DowngradeNote (weak_record self.old) (weak_record self.new) n) }
+        ensures copied { IfOk result (λ other. weak_record other ≡ weak_record self.new) }
+        ensures fault { IfErr result (RefusesTry weak_of (weak_record self.old) (weak_record self.new)) }
+        ensures kept { (weak_value self.new ≡ weak_value self.old) × (weak_block self.new ≡ weak_block self.old) }
+    {
+        let Ok(block) = Block::try_clone(&self.block) else {
+            return Err(TryCountFault::Memory);
+        };
+        let first = self.block.look::<Look>(&mut self.seat);
+        if first % ONE_STRONG == COUNT_LIMIT {
+            return Err(TryCountFault::Full { word: first });
+        }
+        let second = self
+            .block
+            .clone_weak::<Downgrade>(&mut self.seat, &mut self.permission, first, first + 1);
+        if second != first {
+            return Err(TryCountFault::Moved { first, second });
+        }
+        let permission = self.permission.split();
+        let seat = self.block.split_seat::<GiveWeak>(&mut self.seat);
+        Ok(Weak {
+            block,
+            seat,
+            permission,
+            alloc: self.alloc,
+        })
+    }
+
+    /// A strong handle of the same value. It tries again where another handle was in the way.
+    ///
+    /// `None` comes only where the word read had no strong handle.
+    pub fn upgrade<H: Wait>(&mut self, rt: &H) -> Result<Option<Arc<T>>, CountFault>
+        ensures value { IfOk result (λ found. IfSome found (λ strong. arc_value strong ≡ weak_value self.old)) }
+        ensures block { IfOk result (λ found. IfSome found (λ strong. arc_block strong ≡ weak_block self.old)) }
+        ensures added { IfOk result (λ found. IfSome found (λ strong. UpgradesAfterLooks (weak_record self.old) (weak_record self.new))) }
+        ensures copied { IfOk result (λ found. IfSome found (λ strong. arc_record strong ≡ weak_record self.new)) }
+        ensures none { IfOk result (λ found. IfNone found ((middle : List Note) × AddsLooks (weak_record self.old) middle × FindsNone middle (weak_record self.new))) }
+        ensures fault { IfErr result (Refuses strong_of (weak_record self.old) (weak_record self.new)) }
+        ensures kept { (weak_value self.new ≡ weak_value self.old) × (weak_block self.new ≡ weak_block self.old) }
+    {
+        for _ in rt.forever() {
+            match self.try_upgrade() {
+                Ok(found) => return Ok(found),
+                Err(
+                    TryCountFault::Moved {
+                        first: _,
+                        second: _,
+                    },
+                ) => {}
+                Err(TryCountFault::Full { word }) => return Err(CountFault::Full { word }),
+                Err(TryCountFault::Memory) => return Err(CountFault::Memory),
+            }
+        }
+        unreachable!()
+    }
+
+    /// One more weak handle of the same value. It tries again where another handle was in the way.
+    pub fn clone<H: Wait>(&mut self, rt: &H) -> Result<Weak<T>, CountFault>
+        ensures value { IfOk result (λ other. weak_value other ≡ weak_value self.old) }
+        ensures block { IfOk result (λ other. weak_block other ≡ weak_block self.old) }
+        ensures added { IfOk result (λ other. RaisesAfterLooks DowngradeNote weak_of (weak_record self.old) (weak_record self.new)) }
+        ensures copied { IfOk result (λ other. weak_record other ≡ weak_record self.new) }
+        ensures fault { IfErr result (Refuses weak_of (weak_record self.old) (weak_record self.new)) }
+        ensures kept { (weak_value self.new ≡ weak_value self.old) × (weak_block self.new ≡ weak_block self.old) }
+    {
+        for _ in rt.forever() {
+            match self.try_clone() {
+                Ok(other) => return Ok(other),
+                Err(
+                    TryCountFault::Moved {
+                        first: _,
+                        second: _,
+                    },
+                ) => {}
+                Err(TryCountFault::Full { word }) => return Err(CountFault::Full { word }),
+                Err(TryCountFault::Memory) => return Err(CountFault::Memory),
+            }
+        }
+        unreachable!()
+    }
+
+    /// Ends the handle by one step, which released the block exactly where it read the word 1.
+    pub fn end(self) -> Spent
+        ensures added { spent_record result ≡ weak_record self ++ note EndNote (spent_word result) ∷ [] }
+        ensures had_weak { 0 < weak_of (spent_word result) }
+        ensures block { spent_block result ≡ weak_block self }
+    {
+        let Weak {
+            block,
+            mut seat,
+            mut permission,
+            alloc: _,
+        } = self;
+        let word = block.end_weak::<EndWeak>(&mut seat, &mut permission);
+        permission.done();
+        Spent { seat, word }
+    }
+}
+
+/// Ends the handle as `end` does.
+impl<T> Drop for Weak<T> {
+    fn drop(self) {
+        let _ = self.end();
+    }
+}

@@ -1,0 +1,244 @@
+//! The counted word and its steps.
+ghost use Rattle.std.specs.Prelude.{◌≡◌, ◌≢◌, ℕ, ◌+◌, ◌-◌, ◌%◌, ◌^◌, ◌<◌, ◌==◌, List, [], ◌∷◌};
+ghost use prog.Atomic.{either};
+ghost use Rattle.atomic_table.specs.Marked.{Keeps};
+ghost use Rattle.stabby_count_word.specs.Kinds.{nothing, one_strong, two_strong, last, seized, returning, one_weak, strong_and_weak, two_weak};
+ghost use Rattle.stabby_count_word.specs.Rights.{WordNames, word_names_coded, strong_half, weak_half, counted_owns, counted_shares, Cuts};
+
+use crate::permission::Permission;
+use crate::raw_box::RawBox;
+use crate::rule::{CountRule, CountSplit, CountStep};
+use crate::seat::Seat;
+use atomic_table::exchange;
+use std::alloc::Global;
+use std::marker::{Brand, Move, Owns, PhantomData};
+use std::sync::atomic::Ordering::SeqCst;
+use std::sync::atomic::raw;
+
+/// A word of two 32-bit counts, strong above weak, for one value of type `T`.
+///
+/// It keeps the rights to the value that no seat's permission has, under the rule `P` over its number and
+/// all views. A step is one sequentially consistent access. A step that expects a word is an exchange:
+/// where it reads another word, it has written nothing.
+///
+/// Contracts see a word as its names, which never change.
+pub struct CountWord<T, W, P: CountRule<W>> {
+    word: u64,
+    marker: PhantomData<(T, W, P)>,
+}
+
+impl<T, W, P: CountRule<W>> Owns for CountWord<T, W, P> {
+    ghost Value = { WordNames };
+
+    ghost coded = { word_names_coded };
+
+    ghost shr_at = { λ d p κ. counted_shares T.row W.row.coded.code P.holds d p κ };
+}
+
+impl<T, W, P: CountRule<W>> Move for CountWord<T, W, P> {
+    ghost own_val = { λ d vs. counted_owns T.row W.row.coded.code P.holds d (λ n. Fields.own_val (record { word = n; marker = record {} }) vs) };
+}
+
+impl<T: Drop, W, P: CountRule<W>> CountWord<T, W, P> {
+    /// A word of one strong share and the value's own weak unit, the seat of that share, and its permission.
+    pub fn share(value: Box<T>) -> (CountWord<T, W, P>, Seat<W>, Permission<T>)
+        requires { P.holds 4294967297 (P.first ∷ []) }
+        ensures seat { (result.1.views ≡ result.0.views) × (result.1.view ≡ P.first) }
+        ensures permission { (result.2.word_names ≡ result.0) × (result.2.kind ≡ one_strong) × (result.2.value ≡ value.value) }
+    {
+        CountWord::new(RawBox::of(value))
+    }
+}
+
+impl<T, W, P: CountRule<W>> CountWord<T, W, P> {
+    fn new(value: RawBox<T, Global>) -> (CountWord<T, W, P>, Seat<W>, Permission<T>)
+        requires { P.holds 4294967297 (P.first ∷ []) }
+        ensures seat { (result.1.views ≡ result.0.views) × (result.1.view ≡ P.first) }
+        ensures permission { (result.2.word_names ≡ result.0) × (result.2.kind ≡ one_strong) × (result.2.value ≡ value.value) }
+    {
+        let RawBox { at, alloc: _ } = value;
+        (
+            CountWord {
+                word: 4294967297,
+                marker: PhantomData,
+            },
+            Seat {
+                marker: PhantomData,
+            },
+            Permission { ptr: at },
+        )
+    }
+
+    /// A load.
+    pub fn look<M: CountStep<W>>(&self, seat: &mut Seat<W>) -> u64
+        requires { (seat.old.views ≡ self.now.views) × Keeps P.holds seat.old.id seat.old.view (λ n. n) (M.then 0 0 seat.old.view) }
+        ensures { (seat.new.views ≡ seat.old.views) × (seat.new.id ≡ seat.old.id) × M.then 0 0 seat.old.view result seat.new.view }
+    {
+        unsafe { raw::load::<Brand>(&raw const self.word, SeqCst) }
+    }
+
+    /// A load at which the view is cut in two, for a new seat.
+    pub fn split_seat<M: CountSplit<W>>(&self, seat: &mut Seat<W>) -> Seat<W>
+        requires { (seat.old.views ≡ self.now.views) × Cuts P.holds seat.old.id seat.old.view (M.left seat.old.view) (M.right seat.old.view) }
+        ensures { (seat.new.views ≡ seat.old.views) × (seat.new.id ≡ seat.old.id) × (seat.new.view ≡ M.left seat.old.view) × (result.views ≡ seat.old.views) × (result.view ≡ M.right seat.old.view) }
+    {
+        unsafe { raw::load::<Brand>(&raw const self.word, SeqCst) };
+        Seat {
+            marker: PhantomData,
+        }
+    }
+
+    /// Where the word is `old`, a strong share becomes two.
+    pub fn clone_strong<M: CountStep<W>>(
+        &self,
+        seat: &mut Seat<W>,
+        permission: &mut Permission<T>,
+        old: u64,
+        new: u64,
+    ) -> u64
+        requires count { (0 < strong_half old) × (strong_half old < 4294967295) × (new ≡ old + 4294967296) }
+        requires seat { (seat.old.views ≡ self.now.views) × Keeps P.holds seat.old.id seat.old.view (λ n. either (n == old) new n) (M.then old new seat.old.view) }
+        requires permission { (permission.old.kind ≡ one_strong) × (permission.old.word_names ≡ self.now) }
+        ensures seat { (seat.new.views ≡ seat.old.views) × (seat.new.id ≡ seat.old.id) × M.then old new seat.old.view result seat.new.view }
+        ensures permission { (permission.new.ptr ≡ permission.old.ptr) × (permission.new.word_names ≡ permission.old.word_names) × (permission.new.round ≡ permission.old.round) × (permission.new.value ≡ permission.old.value) }
+        ensures kind { (result ≡ old → permission.new.kind ≡ two_strong) × (result ≢ old → permission.new.kind ≡ one_strong) }
+    {
+        unsafe { exchange::<Brand>(&raw const self.word, old, new) }
+    }
+
+    /// Where the word is `old`, which has a strong share, a weak share gets a strong one beside it, with the same value.
+    pub fn upgrade<M: CountStep<W>>(
+        &self,
+        seat: &mut Seat<W>,
+        permission: &mut Permission<T>,
+        old: u64,
+        new: u64,
+    ) -> u64
+        requires count { (0 < strong_half old) × (strong_half old < 4294967295) × (new ≡ old + 4294967296) }
+        requires seat { (seat.old.views ≡ self.now.views) × Keeps P.holds seat.old.id seat.old.view (λ n. either (n == old) new n) (M.then old new seat.old.view) }
+        requires permission { (permission.old.kind ≡ one_weak) × (permission.old.word_names ≡ self.now) }
+        ensures seat { (seat.new.views ≡ seat.old.views) × (seat.new.id ≡ seat.old.id) × M.then old new seat.old.view result seat.new.view }
+        ensures permission { (permission.new.ptr ≡ permission.old.ptr) × (permission.new.word_names ≡ permission.old.word_names) × (permission.new.round ≡ permission.old.round) × (permission.new.value ≡ permission.old.value) }
+        ensures kind { (result ≡ old → permission.new.kind ≡ strong_and_weak) × (result ≢ old → permission.new.kind ≡ one_weak) }
+    {
+        unsafe { exchange::<Brand>(&raw const self.word, old, new) }
+    }
+
+    /// Where the word is `old`, a strong share gets a weak one beside it.
+    pub fn downgrade<M: CountStep<W>>(
+        &self,
+        seat: &mut Seat<W>,
+        permission: &mut Permission<T>,
+        old: u64,
+        new: u64,
+    ) -> u64
+        requires count { (weak_half old < 4294967295) × (new ≡ old + 1) }
+        requires seat { (seat.old.views ≡ self.now.views) × Keeps P.holds seat.old.id seat.old.view (λ n. either (n == old) new n) (M.then old new seat.old.view) }
+        requires permission { (permission.old.kind ≡ one_strong) × (permission.old.word_names ≡ self.now) }
+        ensures seat { (seat.new.views ≡ seat.old.views) × (seat.new.id ≡ seat.old.id) × M.then old new seat.old.view result seat.new.view }
+        ensures permission { (permission.new.ptr ≡ permission.old.ptr) × (permission.new.word_names ≡ permission.old.word_names) × (permission.new.round ≡ permission.old.round) × (permission.new.value ≡ permission.old.value) }
+        ensures kind { (result ≡ old → permission.new.kind ≡ strong_and_weak) × (result ≢ old → permission.new.kind ≡ one_strong) }
+    {
+        unsafe { exchange::<Brand>(&raw const self.word, old, new) }
+    }
+
+    /// Where the word is `old`, a weak share becomes two.
+    pub fn clone_weak<M: CountStep<W>>(
+        &self,
+        seat: &mut Seat<W>,
+        permission: &mut Permission<T>,
+        old: u64,
+        new: u64,
+    ) -> u64
+        requires count { (weak_half old < 4294967295) × (new ≡ old + 1) }
+        requires seat { (seat.old.views ≡ self.now.views) × Keeps P.holds seat.old.id seat.old.view (λ n. either (n == old) new n) (M.then old new seat.old.view) }
+        requires permission { (permission.old.kind ≡ one_weak) × (permission.old.word_names ≡ self.now) }
+        ensures seat { (seat.new.views ≡ seat.old.views) × (seat.new.id ≡ seat.old.id) × M.then old new seat.old.view result seat.new.view }
+        ensures permission { (permission.new.ptr ≡ permission.old.ptr) × (permission.new.word_names ≡ permission.old.word_names) × (permission.new.round ≡ permission.old.round) × (permission.new.value ≡ permission.old.value) }
+        ensures kind { (result ≡ old → permission.new.kind ≡ two_weak) × (result ≢ old → permission.new.kind ≡ one_weak) }
+    {
+        unsafe { exchange::<Brand>(&raw const self.word, old, new) }
+    }
+
+    /// Where the word is `old`, one strong and one weak, the strong share ends and all rights to the value are the caller's.
+    pub fn end_sole<M: CountStep<W>>(
+        &self,
+        seat: &mut Seat<W>,
+        permission: &mut Permission<T>,
+        old: u64,
+        new: u64,
+    ) -> u64
+        requires count { (old ≡ 4294967297) × (new ≡ 1) }
+        requires seat { (seat.old.views ≡ self.now.views) × Keeps P.holds seat.old.id seat.old.view (λ n. either (n == old) new n) (M.then old new seat.old.view) }
+        requires permission { (permission.old.kind ≡ one_strong) × (permission.old.word_names ≡ self.now) }
+        ensures seat { (seat.new.views ≡ seat.old.views) × (seat.new.id ≡ seat.old.id) × M.then old new seat.old.view result seat.new.view }
+        ensures permission { (permission.new.ptr ≡ permission.old.ptr) × (permission.new.word_names ≡ permission.old.word_names) × (permission.new.round ≡ permission.old.round) × (permission.new.value ≡ permission.old.value) }
+        ensures kind { (result ≡ old → permission.new.kind ≡ last) × (result ≢ old → permission.new.kind ≡ one_strong) }
+    {
+        unsafe { exchange::<Brand>(&raw const self.word, old, new) }
+    }
+
+    /// One strong share less. Whoever reads one strong share has all rights to the value.
+    pub fn end_strong<M: CountStep<W>>(
+        &self,
+        seat: &mut Seat<W>,
+        permission: &mut Permission<T>,
+    ) -> u64
+        requires seat { (seat.old.views ≡ self.now.views) × Keeps P.holds seat.old.id seat.old.view (λ n. (n + (2 ^ 64 - 4294967296)) % 2 ^ 64) (M.then 0 0 seat.old.view) }
+        requires permission { (permission.old.kind ≡ one_strong) × (permission.old.word_names ≡ self.now) }
+        ensures seat { (seat.new.views ≡ seat.old.views) × (seat.new.id ≡ seat.old.id) × M.then 0 0 seat.old.view result seat.new.view }
+        ensures permission { (permission.new.ptr ≡ permission.old.ptr) × (permission.new.word_names ≡ permission.old.word_names) × (permission.new.round ≡ permission.old.round) × (permission.new.value ≡ permission.old.value) }
+        ensures kind { (strong_half result ≡ 1 → permission.new.kind ≡ last) × (strong_half result ≢ 1 → permission.new.kind ≡ nothing) }
+    {
+        unsafe { raw::fetch_sub::<Brand>(&raw const self.word, 4294967296, SeqCst) }
+    }
+
+    /// One weak share less, or the value's own weak unit, once the value is taken.
+    pub fn end_weak<M: CountStep<W>>(
+        &self,
+        seat: &mut Seat<W>,
+        permission: &mut Permission<T>,
+    ) -> u64
+        requires seat { (seat.old.views ≡ self.now.views) × Keeps P.holds seat.old.id seat.old.view (λ n. (n + (2 ^ 64 - 1)) % 2 ^ 64) (M.then 0 0 seat.old.view) }
+        requires permission { (permission.old.kind ≡ one_weak) × (permission.old.word_names ≡ self.now) }
+        ensures seat { (seat.new.views ≡ seat.old.views) × (seat.new.id ≡ seat.old.id) × M.then 0 0 seat.old.view result seat.new.view }
+        ensures permission { permission.new ≡ record permission.old { kind = nothing } }
+    {
+        unsafe { raw::fetch_sub::<Brand>(&raw const self.word, 1, SeqCst) }
+    }
+
+    /// A load. Where it reads one strong and one weak, all rights to the value are the caller's, who can bring a value back.
+    pub fn seize<M: CountStep<W>>(&self, seat: &mut Seat<W>, permission: &mut Permission<T>) -> u64
+        requires seat { (seat.old.views ≡ self.now.views) × Keeps P.holds seat.old.id seat.old.view (λ n. n) (M.then 0 0 seat.old.view) }
+        requires permission { (permission.old.kind ≡ one_strong) × (permission.old.word_names ≡ self.now) }
+        ensures seat { (seat.new.views ≡ seat.old.views) × (seat.new.id ≡ seat.old.id) × M.then 0 0 seat.old.view result seat.new.view }
+        ensures permission { (permission.new.ptr ≡ permission.old.ptr) × (permission.new.word_names ≡ permission.old.word_names) × (permission.new.round ≡ permission.old.round) × (permission.new.value ≡ permission.old.value) }
+        ensures kind { (result ≡ 4294967297 → permission.new.kind ≡ seized) × (result ≢ 4294967297 → permission.new.kind ≡ one_strong) }
+    {
+        unsafe { raw::load::<Brand>(&raw const self.word, SeqCst) }
+    }
+
+    /// A load, at which a sole strong share brings a value back for others to share.
+    pub fn give_back<M: CountStep<W>>(
+        &self,
+        seat: &mut Seat<W>,
+        permission: &mut Permission<T>,
+    ) -> u64
+        requires seat { (seat.old.views ≡ self.now.views) × Keeps P.holds seat.old.id seat.old.view (λ n. n) (M.then 0 0 seat.old.view) }
+        requires permission { (permission.old.kind ≡ returning) × (permission.old.word_names ≡ self.now) }
+        ensures seat { (seat.new.views ≡ seat.old.views) × (seat.new.id ≡ seat.old.id) × M.then 0 0 seat.old.view result seat.new.view }
+        ensures permission { permission.new ≡ record permission.old { kind = one_strong } }
+    {
+        unsafe { raw::load::<Brand>(&raw const self.word, SeqCst) }
+    }
+}
+
+impl<T, W, P: CountRule<W>> Drop for CountWord<T, W, P> {
+    fn drop(self) {
+        let Self { word: _, marker: _ } = self;
+    }
+}
+
+unsafe impl<T: Send + Sync, W, P: CountRule<W>> Send for CountWord<T, W, P> {}
+
+unsafe impl<T: Send + Sync, W, P: CountRule<W>> Sync for CountWord<T, W, P> {}

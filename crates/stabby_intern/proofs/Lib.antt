@@ -1,0 +1,5 @@
+pub mod Words
+pub mod Scanning
+pub mod Moved
+pub mod Reporting
+pub mod Clean

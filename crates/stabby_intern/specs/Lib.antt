@@ -1,0 +1,5 @@
+pub mod Devices
+pub mod Memory
+pub mod Parsing
+pub mod Runs
+pub mod Statuses

@@ -1,0 +1,29 @@
+//! Interning from bytes to a report.
+//!
+//! `run` reads tables from a source, numbers them in one registry, and writes their ranks and the distinct tables. Its
+//! contract is the headline: for every valid input and worker count the report is the rank report of the tables, and
+//! the registry holds exactly these tables, each numbered by the place where it was added. Each other status has its
+//! cause there too.
+#![tactic(auto)]
+
+mod command;
+mod device;
+mod lines;
+mod memory;
+mod program;
+mod report;
+mod standard;
+mod status;
+mod sure;
+mod transfer;
+mod word;
+
+pub use device::{Failed, Sink, Source};
+pub use memory::{MemorySink, MemorySource};
+pub use program::run;
+pub use standard::{StderrSink, StdinSource, StdoutSink};
+pub use status::Status;
+pub use sure::{SureSink, SureSource};
+
+#[cfg(test)]
+mod tests;

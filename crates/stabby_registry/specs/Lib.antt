@@ -1,0 +1,7 @@
+pub mod Catalog
+pub mod Passes
+pub mod Inserts
+pub mod Interned
+pub mod Visits
+pub mod Tries
+pub mod TryVisits

@@ -1,0 +1,38 @@
+//! Registries of tables: each distinct table gets a number once and for all, whichever caller is first.
+//!
+//! A registry's list of distinct tables only grows at its end; a table's number is its place in that list. What a caller
+//! has seen of the list is the front of its pass, a prefix of the list. `intern_all` appends exactly the tables that were
+//! absent and answers each table's number; `ranks` turns numbers into places in sorted order.
+#![tactic(auto)]
+
+mod catalog;
+mod fault;
+mod gate;
+mod held;
+mod insert;
+mod intern;
+mod lists_words;
+mod numbered;
+mod ranking;
+mod registry;
+mod snapshot;
+mod table;
+mod try_insert;
+mod vtable_registry;
+
+pub use catalog::Catalog;
+pub use fault::{RegistryFault, TryFault};
+pub use gate::{Gate, OpenGate};
+pub use held::{Held, try_hold};
+pub use intern::{Interned, intern_all};
+pub use lists_words::ListsWords;
+pub use numbered::Numbered;
+pub use ranking::ranks;
+pub use registry::{TreePass, VtBtree};
+pub use stabby_cell::{Busy, CellFault};
+pub use stabby_layout::AllocationError;
+pub use table::WordTable;
+pub use vtable_registry::VTableRegistry;
+
+#[cfg(test)]
+mod tests;

@@ -1,0 +1,117 @@
+//! Reading a registry's version.
+
+ghost use Rattle.std.specs.Prelude.{◌≡◌, ◌≤◌, length, IfOk, IfErr, OnOk, OnErr, MatchOption};
+ghost use Rattle.stabby_tables.specs.Lists.{IsDistinct, ordered};
+ghost use Rattle.stabby_cell.specs.Passes.{front_of, Looked};
+
+use crate::catalog::Catalog;
+use crate::numbered::Numbered;
+use crate::registry::{TreePass, VtBtree};
+use crate::table::WordTable;
+use stabby_cell::{Busy, CellFault};
+use stabby_layout::AllocationError;
+use std::alloc::Global;
+use std::sync::{Arc, Wait};
+
+impl<const SIZE: usize> VtBtree<SIZE> {
+    ghost use Rattle.stabby_registry.specs.Passes.{IsPassOf};
+    ghost use Rattle.stabby_registry.specs.Inserts.{IsNumber, IsReadFault};
+
+    /// The registry's list, as of the last step of this call.
+    ///
+    /// # Errors
+    /// `Memory`, where the copy of the version finds none.
+    pub fn snapshot<H: Wait>(
+        &self,
+        rt: &H,
+        pass: &mut TreePass<SIZE>,
+    ) -> Result<Catalog<SIZE>, AllocationError>
+        requires { IsPassOf self.now pass.old }
+        ensures pass { IsPassOf self.now pass.new }
+        ensures looked { Looked pass.old pass.new }
+        ensures list { IfOk result (λ catalog. catalog ≡ front_of pass.new) }
+        ensures distinct { IsDistinct (front_of pass.new) }
+        ensures err { IfErr result (λ error. error ≡ AllocationError.Memory) }
+    {
+        let turn = self.cell.take(rt, pass);
+        let catalog = turn.version().duplicate();
+        turn.release();
+        catalog
+    }
+
+    /// `snapshot` by one try at the turn.
+    ///
+    /// # Errors
+    /// `Busy` only where another pass held the turn: `lost` rose by one, the front stays; never for a whole pass.
+    /// `Memory`, where the copy of the version finds none.
+    pub fn try_snapshot(&self, pass: &mut TreePass<SIZE>) -> Result<Catalog<SIZE>, CellFault>
+        requires { IsPassOf self.now pass.old }
+        ensures pass { IsPassOf self.now pass.new }
+        ensures looked { OnOk result (Looked pass.old pass.new) }
+        ensures list { IfOk result (λ catalog. catalog ≡ front_of pass.new) }
+        ensures err { IfErr result (IsReadFault pass.old pass.new) }
+    {
+        match pass.try_take(&self.cell) {
+            Err(Busy) => Err(CellFault::Busy),
+            Ok(turn) => {
+                let copy = turn.version().duplicate();
+                turn.release();
+                match copy {
+                    Ok(catalog) => Ok(catalog),
+                    Err(_) => Err(CellFault::Memory),
+                }
+            }
+        }
+    }
+
+    /// The table with this number; `None` exactly where the number isn't below the length of the list.
+    ///
+    /// # Errors
+    /// `Memory`, where std's `Arc` gives no further handle.
+    pub fn entry<H: Wait>(
+        &self,
+        rt: &H,
+        pass: &mut TreePass<SIZE>,
+        number: u64,
+    ) -> Result<Option<Arc<WordTable, Global>>, AllocationError>
+        requires { IsPassOf self.now pass.old }
+        ensures pass { IsPassOf self.now pass.new }
+        ensures looked { Looked pass.old pass.new }
+        ensures entry { IfOk result (λ entry. MatchOption entry (length (front_of pass.new) ≤ number) (λ table. IsNumber (front_of pass.new) table.value number)) }
+        ensures err { IfErr result (λ error. error ≡ AllocationError.Memory) }
+    {
+        let turn = self.cell.take(rt, pass);
+        let entry = turn.version().handle_of(number);
+        turn.release();
+        entry
+    }
+
+    // The tables with their numbers, in order, as of the last step of this call.
+    pub(crate) fn entries<H: Wait>(
+        &self,
+        rt: &H,
+        alloc: Global,
+        pass: &mut TreePass<SIZE>,
+    ) -> Result<Vec<Numbered>, AllocationError>
+        requires { IsPassOf self.now pass.old }
+        ensures pass { IsPassOf self.now pass.new }
+        ensures looked { Looked pass.old pass.new }
+        ensures ok { IfOk result (λ entries. entries.items ≡ ordered (front_of pass.new)) }
+        ensures err { IfErr result (λ error. error ≡ AllocationError.Memory) }
+    {
+        let turn = self.cell.take(rt, pass);
+        let entries = turn.version().entries(alloc);
+        turn.release();
+        entries
+    }
+
+    // Takes the turn and gives it back.
+    pub(crate) fn visit<H: Wait>(&self, rt: &H, pass: &mut TreePass<SIZE>)
+        requires { IsPassOf self.now pass.old }
+        ensures pass { IsPassOf self.now pass.new }
+        ensures looked { Looked pass.old pass.new }
+        ensures distinct { IsDistinct (front_of pass.new) }
+    {
+        self.cell.take(rt, pass).release();
+    }
+}

@@ -1,0 +1,11 @@
+pub mod Order
+pub mod Growing
+pub mod Distinctness
+pub mod Sorted
+pub mod Ranks
+pub mod Zips
+pub mod Cuts
+pub mod Runs
+pub mod Texts
+pub mod Bad
+pub mod Decides

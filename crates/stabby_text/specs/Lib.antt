@@ -1,0 +1,4 @@
+pub mod BoxLends
+pub mod Making
+pub mod SliceViews
+pub mod Texts

@@ -1,0 +1,3 @@
+pub mod DrainLemmas
+pub mod Pushing
+pub mod Steps

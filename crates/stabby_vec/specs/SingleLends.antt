@@ -1,0 +1,11 @@
+-- What a `SingleOrVec` ends as, where a `&mut` to its items is returned.
+use Rattle.std.specs.Prelude.{List}
+use Rattle.std.specs.Borrow.{Lends, Fml, RattleType, MutBor, Array}
+use Rattle.std.specs.declared.alloc.Allocator.{Ghosts}
+use Rattle.stabby_vec.specs.Singles.{Single, single_with_items}
+use Rattle.stabby_vec.specs.contracts.single.SingleOrVec.{the_row}
+
+module _ (T A : RattleType) (alloc : Ghosts A.Denot) (v : MutBor (Single T.Denot)) where
+  -- once the borrow r ends, the items are those that r shows last
+  abbrev pub single_lends_slice : MutBor (List T.Denot) → Fml
+  single_lends_slice r = Lends (the_row T A alloc) (Array T 0) v r (single_with_items v.now)
