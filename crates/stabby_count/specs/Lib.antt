@@ -8,3 +8,4 @@ pub mod Held
 pub mod Records
 pub mod Shared
 pub mod SharedSlices
+pub mod SharedTexts

@@ -1,7 +1,7 @@
 -- What a contract says of the handles of shared slices. Each is a handle of a shared list with a capacity.
 use Rattle.std.specs.Prelude.{ℕ, List}
 use Rattle.stabby_vec.specs.Sequence.{Sequence}
-use Rattle.stabby_count.specs.Shared.{arc_value, arc_block, arc_record, IsSole, weak_value, weak_block, weak_record}
+use Rattle.stabby_count.specs.Shared.{arc_value, arc_block, arc_record, IsSole, IsShared, weak_value, weak_block, weak_record}
 use Rattle.stabby_count.specs.declared.view.Note.{Note}
 use Rattle.stabby_count.specs.declared.slice.ArcSlice.{ArcSlice}
 use Rattle.stabby_count.specs.declared.slice.WeakSlice.{WeakSlice}
@@ -22,6 +22,9 @@ module _ {X : Type 0} where
 
   abbrev pub IsSoleSlice : ArcSlice X → Type 0
   IsSoleSlice a = IsSole a.shared
+
+  abbrev pub IsSharedSlice : ArcSlice X → Type 0
+  IsSharedSlice a = IsShared a.shared
 
   abbrev pub weak_slice_value : WeakSlice X → Sequence X
   weak_slice_value w = weak_value w.shared

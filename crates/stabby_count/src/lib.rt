@@ -9,6 +9,8 @@ mod slice;
 mod slice_traits;
 mod spent;
 mod strong;
+mod text;
+mod text_traits;
 mod view;
 mod weak;
 mod word_steps;
@@ -17,7 +19,9 @@ pub use fault::{CountFault, TryCountFault};
 pub use machine::{HandleMachine, Reply, Step, ValueState};
 pub use slice::{ArcSlice, WeakSlice};
 pub use spent::Spent;
+pub use stabby_text::MakeFault;
 pub use strong::Arc;
+pub use text::{ArcStr, WeakStr};
 pub use view::{Note, View};
 pub use weak::Weak;
 

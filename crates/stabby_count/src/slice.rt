@@ -78,8 +78,8 @@ impl<T> ArcSlice<T> {
 }
 
 impl<T: Drop> ArcSlice<T> {
-    ghost use Rattle.std.specs.Prelude.{◌≡◌, ◌≢◌, ℕ, IfOk, IfErr, IsOk, MatchResult};
-    ghost use Rattle.stabby_count.specs.SharedSlices.{slice_value, slice_items, slice_block, slice_record, IsSoleSlice, weak_slice_value, weak_slice_block, weak_slice_record};
+    ghost use Rattle.std.specs.Prelude.{◌≡◌, ◌≢◌, ℕ, [], IfOk, IfErr, OnOk, OnErr, IsOk, MatchResult};
+    ghost use Rattle.stabby_count.specs.SharedSlices.{slice_value, slice_items, slice_block, slice_record, IsSoleSlice, IsSharedSlice, weak_slice_value, weak_slice_block, weak_slice_record};
     ghost use Rattle.stabby_count.specs.Records.{AddsLook, RaisesAfterLooks, Refuses, strong_of, weak_of, alone};
     ghost use Rattle.stabby_count.specs.declared.machine.Step.TheVariants.{Clone as CloneNote, Downgrade as DowngradeNote};
     ghost use Rattle.stabby_layout.specs.declared.error.AllocationError.TheVariants.{Memory};
@@ -91,6 +91,7 @@ impl<T: Drop> ArcSlice<T> {
     ) -> Result<ArcSlice<T>, (Vec<T, Global>, AllocationError)>
         ensures value { IfOk result (λ made. slice_value made ≡ value) }
         ensures sole { IfOk result IsSoleSlice }
+        ensures new_record { IfOk result (λ made. slice_record made ≡ []) }
         ensures refused { IfErr result (λ back. back ≡ (value, Memory)) }
     {
         match Arc::try_new_in(alloc, value) {
@@ -121,6 +122,8 @@ impl<T: Drop> ArcSlice<T> {
         ensures block { IfOk result (λ other. slice_block other ≡ slice_block self.old) }
         ensures added { IfOk result (λ other. RaisesAfterLooks CloneNote strong_of (slice_record self.old) (slice_record self.new)) }
         ensures copied { IfOk result (λ other. slice_record other ≡ slice_record self.new) }
+        ensures shares { IfOk result (λ other. IsSharedSlice self.new × IsSharedSlice other) }
+        ensures stays_sole { IsSoleSlice self.old → OnErr result (IsSoleSlice self.new) }
         ensures fault { IfErr result (Refuses strong_of (slice_record self.old) (slice_record self.new)) }
         ensures kept { (slice_value self.new ≡ slice_value self.old) × (slice_block self.new ≡ slice_block self.old) }
     {
@@ -136,6 +139,8 @@ impl<T: Drop> ArcSlice<T> {
         ensures block { IfOk result (λ weak. weak_slice_block weak ≡ slice_block self.old) }
         ensures added { IfOk result (λ weak. RaisesAfterLooks DowngradeNote weak_of (slice_record self.old) (slice_record self.new)) }
         ensures copied { IfOk result (λ weak. weak_slice_record weak ≡ slice_record self.new) }
+        ensures shares { OnOk result (IsSharedSlice self.new) }
+        ensures stays_sole { IsSoleSlice self.old → OnErr result (IsSoleSlice self.new) }
         ensures fault { IfErr result (Refuses weak_of (slice_record self.old) (slice_record self.new)) }
         ensures kept { (slice_value self.new ≡ slice_value self.old) × (slice_block self.new ≡ slice_block self.old) }
     {
@@ -147,14 +152,15 @@ impl<T: Drop> ArcSlice<T> {
 }
 
 impl<T: Copy> ArcSlice<T> {
-    ghost use Rattle.std.specs.Prelude.{◌≡◌, IfOk, IfErr};
-    ghost use Rattle.stabby_count.specs.SharedSlices.{slice_items, IsSoleSlice};
+    ghost use Rattle.std.specs.Prelude.{◌≡◌, [], IfOk, IfErr};
+    ghost use Rattle.stabby_count.specs.SharedSlices.{slice_items, slice_record, IsSoleSlice};
     ghost use Rattle.stabby_layout.specs.declared.error.AllocationError.TheVariants.{Memory};
 
     /// Shares a copy of the items. The handle is sole. The refusal is for want of memory.
     pub fn from_slice(alloc: Global, value: &[T]) -> Result<ArcSlice<T>, AllocationError>
         ensures items { IfOk result (λ made. slice_items made ≡ value.now) }
         ensures sole { IfOk result IsSoleSlice }
+        ensures new_record { IfOk result (λ made. slice_record made ≡ []) }
         ensures error { IfErr result (λ error. error ≡ Memory) }
     {
         let Ok(list) = Vec::from_slice(alloc, value) else {

@@ -13,6 +13,7 @@ use crate::word_steps::{
 };
 use stabby_count_word::{CountWord, Permission, Seat};
 use stabby_layout::AllocationError;
+use stabby_text::MakeFault;
 use std::alloc::{AllocError, AllocFailed, Global};
 use std::mem;
 use std::ops::Deref;
@@ -120,10 +121,10 @@ impl<T> Arc<T> {
             let word = self.block.look::<LookSole>(&mut self.seat);
             return word == ALONE;
         }
-        let word = self
+        let read = self
             .block
             .seize::<LookSole>(&mut self.seat, &mut self.permission);
-        if word != ALONE {
+        if read != ALONE {
             return false;
         }
         let boxed = self.permission.take_box(self.alloc);
@@ -157,8 +158,8 @@ impl<T> Arc<T> {
 }
 
 impl<T: Drop> Arc<T> {
-    ghost use Rattle.std.specs.Prelude.{◌≡◌, ◌<◌, ◌+◌, ℕ, IfOk, IfErr, MatchResult, None};
-    ghost use Rattle.stabby_count.specs.Shared.{arc_value, arc_block, arc_record, weak_value, weak_block, weak_record, IsSole};
+    ghost use Rattle.std.specs.Prelude.{◌≡◌, ◌<◌, ◌+◌, ℕ, IfOk, IfErr, OnOk, OnErr, MatchResult, None};
+    ghost use Rattle.stabby_count.specs.Shared.{arc_value, arc_block, arc_record, weak_value, weak_block, weak_record, IsSole, IsShared};
     ghost use Rattle.stabby_count.specs.Records.{AddsStep, RefusesTry, strong_of, weak_of};
     ghost use Rattle.stabby_count.specs.Handles.{count_limit};
     ghost use Rattle.stabby_count.specs.declared.machine.Step.TheVariants.{Clone as CloneNote, Downgrade as DowngradeNote};
@@ -185,6 +186,8 @@ impl<T: Drop> Arc<T> {
         ensures block { IfOk result (λ other. arc_block other ≡ arc_block self.old) }
         ensures added { IfOk result (λ other. (n : ℕ) × (strong_of n < count_limit) × AddsStep CloneNote (arc_record self.old) (arc_record self.new) n) }
         ensures copied { IfOk result (λ other. arc_record other ≡ arc_record self.new) }
+        ensures shares { IfOk result (λ other. IsShared self.new × IsShared other) }
+        ensures stays_sole { IsSole self.old → OnErr result (IsSole self.new) }
         ensures fault { IfErr result (RefusesTry strong_of (arc_record self.old) (arc_record self.new)) }
         ensures sole { IsSole self.old → IfErr result (λ fault. fault ≡ Memory) }
         ensures kept { (arc_value self.new ≡ arc_value self.old) × (arc_block self.new ≡ arc_block self.old) }
@@ -223,6 +226,8 @@ impl<T: Drop> Arc<T> {
         ensures block { IfOk result (λ weak. weak_block weak ≡ arc_block self.old) }
         ensures added { IfOk result (λ weak. (n : ℕ) × (weak_of n < count_limit) × AddsStep DowngradeNote (arc_record self.old) (arc_record self.new) n) }
         ensures copied { IfOk result (λ weak. weak_record weak ≡ arc_record self.new) }
+        ensures shares { OnOk result (IsShared self.new) }
+        ensures stays_sole { IsSole self.old → OnErr result (IsSole self.new) }
         ensures fault { IfErr result (RefusesTry weak_of (arc_record self.old) (arc_record self.new)) }
         ensures sole { IsSole self.old → IfErr result (λ fault. fault ≡ Memory) }
         ensures kept { (arc_value self.new ≡ arc_value self.old) × (arc_block self.new ≡ arc_block self.old) }
@@ -253,8 +258,8 @@ impl<T: Drop> Arc<T> {
 }
 
 impl<T: Drop> Arc<T> {
-    ghost use Rattle.std.specs.Prelude.{◌≡◌, IfOk, IfErr};
-    ghost use Rattle.stabby_count.specs.Shared.{arc_value, arc_block, arc_record, weak_value, weak_block, weak_record};
+    ghost use Rattle.std.specs.Prelude.{◌≡◌, IfOk, IfErr, OnOk, OnErr};
+    ghost use Rattle.stabby_count.specs.Shared.{arc_value, arc_block, arc_record, weak_value, weak_block, weak_record, IsSole, IsShared};
     ghost use Rattle.stabby_count.specs.Records.{RaisesAfterLooks, Refuses, strong_of, weak_of};
     ghost use Rattle.stabby_count.specs.declared.machine.Step.TheVariants.{Clone as CloneNote, Downgrade as DowngradeNote};
 
@@ -264,6 +269,8 @@ impl<T: Drop> Arc<T> {
         ensures block { IfOk result (λ other. arc_block other ≡ arc_block self.old) }
         ensures added { IfOk result (λ other. RaisesAfterLooks CloneNote strong_of (arc_record self.old) (arc_record self.new)) }
         ensures copied { IfOk result (λ other. arc_record other ≡ arc_record self.new) }
+        ensures shares { IfOk result (λ other. IsShared self.new × IsShared other) }
+        ensures stays_sole { IsSole self.old → OnErr result (IsSole self.new) }
         ensures fault { IfErr result (Refuses strong_of (arc_record self.old) (arc_record self.new)) }
         ensures kept { (arc_value self.new ≡ arc_value self.old) × (arc_block self.new ≡ arc_block self.old) }
     {
@@ -289,6 +296,8 @@ impl<T: Drop> Arc<T> {
         ensures block { IfOk result (λ weak. weak_block weak ≡ arc_block self.old) }
         ensures added { IfOk result (λ weak. RaisesAfterLooks DowngradeNote weak_of (arc_record self.old) (arc_record self.new)) }
         ensures copied { IfOk result (λ weak. weak_record weak ≡ arc_record self.new) }
+        ensures shares { OnOk result (IsShared self.new) }
+        ensures stays_sole { IsSole self.old → OnErr result (IsSole self.new) }
         ensures fault { IfErr result (Refuses weak_of (arc_record self.old) (arc_record self.new)) }
         ensures kept { (arc_value self.new ≡ arc_value self.old) × (arc_block self.new ≡ arc_block self.old) }
     {
@@ -327,7 +336,7 @@ fn take_value<T>(
 }
 
 impl<T: Drop> Arc<T> {
-    ghost use Rattle.std.specs.Prelude.{◌≡◌, ◌≢◌, ◌<◌, ◌++◌, ◌∷◌, [], ℕ, IfOk, IfErr, IsOk, MatchResult, None};
+    ghost use Rattle.std.specs.Prelude.{◌≡◌, ◌≢◌, ◌↔◌, ◌<◌, ◌++◌, ◌∷◌, [], ℕ, IfOk, IfErr, IsOk, MatchResult, None};
     ghost use Rattle.stabby_count.specs.Shared.{arc_value, arc_block, arc_record, spent_block, spent_record, spent_word, IsSole};
     ghost use Rattle.stabby_count.specs.Records.{AddsLook, note, strong_of, alone};
     ghost use Rattle.stabby_count.specs.declared.machine.Step.TheVariants.{EndStrong as EndNote};
@@ -363,13 +372,14 @@ impl<T: Drop> Arc<T> {
         }
     }
 
-    // The end of a handle whose value is in the block.
-    fn finish(self) -> Result<T, Spent>
+    // The end of a handle whose value is in the block, and the word that its step read.
+    fn finish(self) -> (Result<T, Spent>, u64)
         requires { self.own ≡ None }
-        ensures value { IfOk result (λ value. value ≡ arc_value self) }
-        ensures spent { IfErr result (λ spent. (1 < strong_of (spent_word spent)) × (spent_block spent ≡ arc_block self)) }
-        ensures added { IfErr result (λ spent. spent_record spent ≡ arc_record self ++ note EndNote (spent_word spent) ∷ []) }
-        ensures sole { IsSole self → IsOk result }
+        ensures exactly { IsOk result.0 ↔ (strong_of result.1 ≡ 1) }
+        ensures value { IfOk result.0 (λ value. value ≡ arc_value self) }
+        ensures spent { IfErr result.0 (λ spent. (1 < strong_of (spent_word spent)) × (spent_block spent ≡ arc_block self) × (spent_word spent ≡ result.1)) }
+        ensures added { IfErr result.0 (λ spent. spent_record spent ≡ arc_record self ++ note EndNote (spent_word spent) ∷ []) }
+        ensures sole { IsSole self → IsOk result.0 }
     {
         let Arc {
             block,
@@ -382,9 +392,9 @@ impl<T: Drop> Arc<T> {
         let word = block.end_strong::<EndStrong>(&mut seat, &mut permission);
         if word / ONE_STRONG != 1 {
             permission.done();
-            return Err(Spent { seat, word });
+            return (Err(Spent { seat, word }), word);
         }
-        Ok(take_value(&block, &mut seat, permission, alloc))
+        (Ok(take_value(&block, &mut seat, permission, alloc)), word)
     }
 
     /// Ends the handle by one step. The value comes exactly where that step read one strong.
@@ -396,16 +406,18 @@ impl<T: Drop> Arc<T> {
     {
         let mut whole = self;
         whole.settle();
-        whole.finish()
+        let (answer, _word) = whole.finish();
+        answer
     }
 
-    // One exchange, by a handle whose value is in the block.
-    fn end_sole(self) -> Result<T, Arc<T>>
+    // One exchange, by a handle whose value is in the block, and the word that it read.
+    fn end_sole(self) -> (Result<T, Arc<T>>, u64)
         requires { self.own ≡ None }
-        ensures value { MatchResult result (λ value. value ≡ arc_value self) (λ back. arc_value back ≡ arc_value self) }
-        ensures shared { IfErr result (λ back. (n : ℕ) × (n ≢ alone) × AddsLook (arc_record self) (arc_record back) n) }
-        ensures block { IfErr result (λ back. arc_block back ≡ arc_block self) }
-        ensures sole { IsSole self → IsOk result }
+        ensures exactly { IsOk result.0 ↔ (result.1 ≡ alone) }
+        ensures value { MatchResult result.0 (λ value. value ≡ arc_value self) (λ back. arc_value back ≡ arc_value self) }
+        ensures shared { IfErr result.0 (λ back. AddsLook (arc_record self) (arc_record back) result.1) }
+        ensures block { IfErr result.0 (λ back. arc_block back ≡ arc_block self) }
+        ensures sole { IsSole self → IsOk result.0 }
     {
         let Arc {
             block,
@@ -416,16 +428,17 @@ impl<T: Drop> Arc<T> {
         } = self;
         let word = block.end_sole::<EndSole>(&mut seat, &mut permission, ALONE, 1);
         if word != ALONE {
-            return Err(Arc {
+            let back = Arc {
                 block,
                 seat,
                 permission,
                 own,
                 alloc,
-            });
+            };
+            return (Err(back), word);
         }
         drop(own);
-        Ok(take_value(&block, &mut seat, permission, alloc))
+        (Ok(take_value(&block, &mut seat, permission, alloc)), word)
     }
 
     /// The value, where this is the only handle, by one exchange.
@@ -439,7 +452,37 @@ impl<T: Drop> Arc<T> {
     {
         let mut whole = self;
         whole.settle();
-        whole.end_sole()
+        let (answer, _word) = whole.end_sole();
+        answer
+    }
+}
+
+impl<T: Drop> Arc<T> {
+    ghost use Rattle.std.specs.Prelude.{◌≡◌, [], Ok, Err, IfOk, IfErr};
+    ghost use Rattle.stabby_count.specs.Shared.{arc_value, arc_record, IsSole};
+    ghost use Rattle.stabby_text.specs.Making.{MadeOrFault};
+
+    /// Calls `make`, and shares what it made. The handle is sole, and its record empty.
+    ///
+    /// `Constructor` comes only where `make` answered that fault, and `Memory` hands back the value that it
+    /// made.
+    pub fn try_make_in<E, F: FnOnce() -> Result<T, E>>(
+        alloc: Global,
+        make: F,
+    ) -> Result<Arc<T>, MakeFault<T, E>>
+        requires { F.pre make }
+        ensures made { IfOk result (λ made. F.post make (Ok (arc_value made))) }
+        ensures sole { IfOk result IsSole }
+        ensures new_record { IfOk result (λ made. arc_record made ≡ []) }
+        ensures fault { IfErr result (λ fault. MadeOrFault (F.post make) (Err fault)) }
+    {
+        match make() {
+            Err(fault) => Err(MakeFault::Constructor(fault)),
+            Ok(value) => match Arc::try_new_in(alloc, value) {
+                Ok(made) => Ok(made),
+                Err((value, _error)) => Err(MakeFault::Memory(value)),
+            },
+        }
     }
 }
 
@@ -447,7 +490,7 @@ impl<T: Clone + Drop> Arc<T> {
     ghost use Rattle.std.specs.Borrow.{LendsSoOk, sem};
     ghost use Rattle.std.specs.Prelude.{◌≡◌, ◌⊎◌, ℕ, IfOk, IfErr, IsOk, OnErr, OnOk, MatchResult, is_some, true, false};
     ghost use Rattle.stabby_count.specs.Held.{held_or};
-    ghost use Rattle.stabby_count.specs.Shared.{arc_value, arc_block, arc_record, IsSole};
+    ghost use Rattle.stabby_count.specs.Shared.{arc_value, arc_block, arc_record, IsSole, PartsWays, FindsOthers};
     ghost use Rattle.stabby_count.specs.contracts.strong.Arc.{the_row};
     ghost use Rattle.stabby_layout.specs.declared.error.AllocationError.TheVariants.{Memory};
 
@@ -466,8 +509,10 @@ impl<T: Clone + Drop> Arc<T> {
         ensures own { OnOk result (is_some self.new.own ≡ true) }
         ensures sole { OnOk result (IsSole self.new) }
         ensures value { OnOk result ((arc_value self.new ≡ arc_value self.old) ⊎ T.is_clone (arc_value self.old) (arc_value self.new)) }
+        ensures parted { OnOk result (PartsWays T.is_clone self.old self.new (arc_value self.new)) }
         ensures was_sole { IsSole self.old → OnOk result ((arc_value self.new ≡ arc_value self.old) × (arc_block self.new ≡ arc_block self.old)) }
         ensures refused { OnErr result ((arc_value self.new ≡ arc_value self.old) × (arc_block self.new ≡ arc_block self.old)) }
+        ensures found_others { OnErr result (FindsOthers self.old self.new) }
         ensures error { IfErr result (λ error. error ≡ Memory) }
         ensures sole_succeeds { IsSole self.old → IsOk result }
     {
@@ -493,7 +538,7 @@ impl<T: Clone + Drop> Arc<T> {
     /// Where the word read isn't one strong and one weak, the value is cloned into a new block and the old
     /// handle ends. A refusal leaves the handle and its value as they were.
     pub fn make_mut(&mut self, alloc: Global) -> Result<&mut T, AllocationError>
-        ensures* writes_back { sem 𝓛 (LendsSoOk (the_row T.row) T.row self.entry result (λ n w. (arc_value n ≡ w) × IsSole n × (IsSole self.old → arc_block n ≡ arc_block self.old)) (λ n. (arc_value n ≡ arc_value self.old) × (arc_block n ≡ arc_block self.old))) }
+        ensures* writes_back { sem 𝓛 (LendsSoOk (the_row T.row) T.row self.entry result (λ n w. (arc_value n ≡ w) × IsSole n × (IsSole self.old → arc_block n ≡ arc_block self.old) × IfOk result (λ r. PartsWays T.is_clone self.old n r.now)) (λ n. (arc_value n ≡ arc_value self.old) × (arc_block n ≡ arc_block self.old) × FindsOthers self.old n)) }
         ensures value { IfOk result (λ r. (r.now ≡ arc_value self.old) ⊎ T.is_clone (arc_value self.old) r.now) }
         ensures sole { IsSole self.old → IfOk result (λ r. r.now ≡ arc_value self.old) }
         ensures sole_succeeds { IsSole self.old → IsOk result }

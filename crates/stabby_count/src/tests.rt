@@ -2,4 +2,5 @@
 mod handles;
 mod machine;
 mod slices;
+mod texts;
 mod threads;

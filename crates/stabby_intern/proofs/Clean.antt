@@ -1,5 +1,5 @@
 -- What a run without faults over a told input can't answer.
-use Rattle.std.proofs.Common.{◌≡◌, ℕ, ◌+◌, ◌<◌, ◌≤◌, List, [], ◌++◌, length, refl, sym, ◌∙◌, ap, subst, arith, Option, None, Some, IsSome, IfSome, append-nil, length-append, true, false}
+use Rattle.std.proofs.Common.{◌≡◌, ℕ, ◌<◌, ◌≤◌, List, [], ◌++◌, length, sym, ◌∙◌, ap, subst, arith, Option, None, Some, IsSome, IfSome, append-nil, length-append}
 use mathlib.Core.Bool.{false≢true}
 use Rattle.stabby_tables.specs.Tables.{Table}
 use Rattle.stabby_tables.specs.Lines.{IsLines, IsBadLine}

@@ -1,19 +1,25 @@
 -- How the text of a report grows, and that it is the report.
-use Rattle.std.proofs.Common.{◌≡◌, ℕ, zero, suc, ◌+◌, ◌<◌, ◌≤◌, ◌==◌, List, [], ◌∷◌, ◌++◌, length, map, take, get_or, refl, sym, ◌∙◌, ap, subst, arith, Bool, true, false, ◌||◌, if◌then◌else◌, nat_lt, append_assoc, append-nil, inl, inr}
+use Rattle.std.proofs.Common.{◌≡◌, ℕ, suc, ◌+◌, ◌<◌, List, [], ◌∷◌, ◌++◌, length, map, take, get_or, refl, sym, ◌∙◌, ap, subst, arith, Bool, true, false, if◌then◌else◌, nat_lt, inr}
 use mathlib.Core.Bool.{false≢true}
 use Rattle.std.specs.Fmt.{decimal}
 use Rattle.std.proofs.lemmas.List.{take_more}
 use Rattle.std.proofs.lemmas.Grind.{common_steps}
 use Rattle.std.proofs.lemmas.Bool.Decides.{nat_tests}
 use Rattle.stabby_tables.specs.Tables.{Table, is_same}
-use Rattle.stabby_tables.specs.Lists.{has, distinct, place, increasing, ordered, rank, entry_place, HoldsEachOnce, AppendsAbsent, AppendsSome}
+use Rattle.stabby_tables.specs.Lists.{has, distinct, place, increasing, ordered, rank, entry_place, IsDistinct, HoldsEachOnce, AppendsAbsent, AppendsSome}
 use Rattle.stabby_tables.specs.Shares.{IsFirstInShare}
 use Rattle.stabby_tables.specs.Pieces.{lines_of}
 use Rattle.stabby_tables.specs.Lines.{joined, ended, IsText, IsBadLine, Spells}
-use Rattle.stabby_tables.specs.Reports.{spelled, rank_report}
+use Rattle.stabby_tables.specs.Reports.{spelled, rank_report, number_report}
 use Rattle.std.specs.List.{AllZip}
 use Rattle.stabby_intern.specs.Parsing.{IsBadAt}
-use Rattle.stabby_intern.specs.Runs.{PartlyAdded, Reported}
+use Rattle.stabby_intern.specs.declared.command.Task.{Task}
+use Rattle.stabby_intern.specs.declared.command.Task.TheVariants as tasks
+use Rattle.stabby_intern.specs.Printing.{text_of}
+use Rattle.stabby_intern.specs.Runs.{PartlyAdded, Reported, task_report}
+use Rattle.stabby_intern.proofs.ByNumber.{listed-ordered}
+use Rattle.stabby_registry.specs.Catalog.{listed}
+use Rattle.stabby_registry.specs.Interned.{InternedValue}
 use Rattle.stabby_tables.proofs.Growing.{has_distinct, same_itself}
 use Rattle.stabby_tables.proofs.Sorted.{increasing_unique}
 use Rattle.stabby_tables.proofs.Ranks.{rank_by_entries}
@@ -50,12 +56,24 @@ tables_part : (f s : List Table) → map (λ (e : Table × ℕ). spelled e.0) (m
 tables_part f [] = refl
 tables_part f (t ∷ s) = ap (λ l. spelled t ∷ l) (tables_part f s)
 
--- the text that is made of the ranks and the entries is the report
-pub report_is : (ts f : List Table) (ranks numbers : List ℕ) (entries : List (Table × ℕ)) (report : List ℕ) → HoldsEachOnce ts f → numbers ≡ map (place f) ts → entries ≡ ordered f → ranks ≡ map (entry_place entries) numbers
-    → report ≡ ended (map decimal ranks) ++ ended (map (λ (e : Table × ℕ). spelled e.0) entries) → report ≡ rank_report ts
-report_is ts f ranks numbers entries report holds numbered in_order ranked is =
+rank_report_is : (ts f : List Table) (numbers : List ℕ) (entries : List (Table × ℕ)) → HoldsEachOnce ts f → numbers ≡ map (place f) ts → entries ≡ ordered f
+    → ended (map decimal (map (entry_place entries) numbers)) ++ ended (map (λ (e : Table × ℕ). spelled e.0) entries) ≡ rank_report ts
+rank_report_is ts f numbers entries holds numbered in_order =
     let members : (t : Table) → has f t ≡ has (distinct ts) t = λ t. holds.members t ∙ sym (has_distinct ts t) in
-    is ∙ rw (ranked, in_order, numbered, numbers_part ts f ts holds (λ u m. m), tables_part f (increasing f), increasing_unique f (distinct ts) members) refl
+    rw (in_order, numbered, numbers_part ts f ts holds (λ u m. m), tables_part f (increasing f), increasing_unique f (distinct ts) members) refl
+
+places_part : (f us : List Table) → map decimal (map (place f) us) ≡ map (λ t. decimal (place f t)) us
+places_part f [] = refl
+places_part f (u ∷ us) = ap (λ l. decimal (place f u) ∷ l) (places_part f us)
+
+number_report_is : (ts f : List Table) (numbers : List ℕ) (entries : List (Table × ℕ)) → IsDistinct f → numbers ≡ map (place f) ts → entries ≡ ordered f
+    → ended (map decimal numbers) ++ ended (map spelled (listed entries)) ≡ number_report ts f
+number_report_is ts f numbers entries once numbered in_order = rw (in_order, numbered, places_part f ts, listed-ordered f once) refl
+
+-- the text that is made of the numbers and the entries is the report of the task
+report_is : (task : Task) (ts f : List Table) (interned : InternedValue) → HoldsEachOnce ts f → interned.numbers ≡ map (place f) ts → interned.entries ≡ ordered f → text_of task interned ≡ task_report task ts f
+report_is tasks.Ranks ts f interned holds numbered in_order = rank_report_is ts f interned.numbers interned.entries holds numbered in_order
+report_is tasks.Numbers ts f interned holds numbered in_order = number_report_is ts f interned.numbers interned.entries holds.once numbered in_order
 
 -- a registry that was empty holds the tables, each once
 pub holds_from_empty : (ts f : List Table) → AppendsAbsent [] ts f → HoldsEachOnce ts f
@@ -75,15 +93,22 @@ bad_line text k bad = record { front = bad.front; line = bad.line; after = bad.a
 pub partly : (text : List ℕ) (ts old f : List Table) → AllZip Spells (lines_of text) ts → old ≡ [] → AppendsSome old ts f → PartlyAdded text f
 partly text ts old f zip empty some = inr (ts, lines_from_zip text ts zip, subst (λ o. AppendsSome o ts f) empty some)
 
-pub reported : (text : List ℕ) (workers : ℕ) (ts old f : List Table) (ranks numbers : List ℕ) (entries : List (Table × ℕ)) (report : List ℕ) → AllZip Spells (lines_of text) ts → old ≡ [] → AppendsAbsent old ts f
-    → numbers ≡ map (place f) ts → entries ≡ ordered f → ranks ≡ map (entry_place entries) numbers → IsFirstInShare numbers workers (length old)
-    → report ≡ ended (map decimal ranks) ++ ended (map (λ (e : Table × ℕ). spelled e.0) entries) → Reported text workers f report
-reported text workers ts old f ranks numbers entries report zip empty appends numbered in_order ranked first is =
+pub reported : (task : Task) (text : List ℕ) (workers : ℕ) (ts old f : List Table) (interned : InternedValue) (report : List ℕ) → AllZip Spells (lines_of text) ts → old ≡ [] → AppendsAbsent old ts f
+    → interned.numbers ≡ map (place f) ts → interned.entries ≡ ordered f → IsFirstInShare interned.numbers workers (length old)
+    → report ≡ text_of task interned → Reported task text workers f report
+reported task text workers ts old f interned report zip empty appends numbered in_order first is =
     let holds : HoldsEachOnce ts f = holds_from_empty ts f (subst (λ o. AppendsAbsent o ts f) empty appends) in
     record {
       tables = ts;
       lines = lines_from_zip text ts zip;
-      is_report = report_is ts f ranks numbers entries report holds numbered in_order ranked is;
+      is_report = is ∙ report_is task ts f interned holds numbered in_order;
       holds = holds;
-      first = subst (λ n. IsFirstInShare n workers 0) numbered (subst (λ o. IsFirstInShare numbers workers (length o)) empty first);
+      first = subst (λ n. IsFirstInShare n workers 0) numbered (subst (λ o. IsFirstInShare interned.numbers workers (length o)) empty first);
     }
+
+-- the entries are the ordered ones of the list that they stand for
+pub entries_in_order : (entries : List (Table × ℕ)) (f : List Table) → entries ≡ ordered f → IsDistinct f → ordered (listed entries) ≡ entries
+entries_in_order entries f is once = rw is (ap ordered (listed-ordered f once))
+
+pub entries_distinct : (entries : List (Table × ℕ)) (f : List Table) → entries ≡ ordered f → IsDistinct f → IsDistinct (listed entries)
+entries_distinct entries f is once = rw (is, listed-ordered f once) once

@@ -1,25 +1,23 @@
 -- What a run of the program says.
-use Rattle.std.specs.Prelude.{◌≡◌, ℕ, ◌^◌, ◌<◌, ◌≤◌, List, [], ◌∷◌, ◌++◌, length, map, Option, None, Some, IfSome, codes, ◌⊎◌, take, IsSome}
-use Rattle.std.specs.Str.Parse.{IsNumeral, digits_value}
+use Rattle.std.specs.Prelude.{◌≡◌, ℕ, ◌<◌, ◌≤◌, List, [], length, map, Option, Some, IfSome, ◌⊎◌, take, IsSome}
 use Rattle.stabby_tables.specs.Tables.{Table}
 use Rattle.stabby_tables.specs.Lists.{place, HoldsEachOnce, AppendsSome}
 use Rattle.stabby_tables.specs.Shares.{IsFirstInShare}
 use Rattle.stabby_tables.specs.Lines.{IsLines, IsBadLine}
-use Rattle.stabby_tables.specs.Reports.{rank_report}
+use Rattle.stabby_tables.specs.Reports.{rank_report, number_report}
+use Rattle.stabby_intern.specs.Commands.{IsCommand}
 use Rattle.stabby_intern.specs.Devices.{Gave, Took, Rose}
+use Rattle.stabby_intern.specs.declared.command.Task.{Task}
+use Rattle.stabby_intern.specs.declared.command.Task.TheVariants as tasks
 
 -- the greatest length of an input
 abbrev pub input_limit : ℕ
 input_limit = 16777216
 
--- the words are `ranks` and a number from 1 to 64
-pub record IsRanks (words : List (List ℕ)) (workers : ℕ) : Type 0 where
-  pub digits : List ℕ
-  pub words_are : words ≡ codes "ranks" ∷ digits ∷ []
-  pub numeral : IsNumeral 10 digits
-  pub number : digits_value 10 digits ≡ workers
-  pub least : 1 ≤ workers
-  pub most : workers ≤ 64
+-- what a task writes of the tables of its input and the registry's list of them
+abbrev pub task_report : Task → List Table → List Table → List ℕ
+task_report tasks.Ranks tables front = rank_report tables
+task_report tasks.Numbers tables front = number_report tables front
 
 -- the source gave these bytes, and no told byte is left
 pub record ReadToEnd (old new : Option (List ℕ)) (bytes : List ℕ) : Type 0 where
@@ -27,16 +25,17 @@ pub record ReadToEnd (old new : Option (List ℕ)) (bytes : List ℕ) : Type 0 w
   pub at_end : IfSome new (λ left. left ≡ [])
   pub fits : length bytes ≤ input_limit
 
--- a run of `ranks` that ended well: the input spells tables, the sink took their report, and the
+-- a run that ended well: the input spells tables, the sink took the task's report of them, and the
 -- registry holds exactly these tables, each numbered by the place where it was added
-pub record RanksRun (words : List (List ℕ)) (left left' taken taken' : Option (List ℕ)) (front : List Table) : Type 0 where
+pub record OkRun (words : List (List ℕ)) (left left' taken taken' : Option (List ℕ)) (front : List Table) : Type 0 where
+  pub task : Task
   pub workers : ℕ
   pub bytes : List ℕ
   pub tables : List Table
-  pub command : IsRanks words workers
+  pub command : IsCommand words task workers
   pub read : ReadToEnd left left' bytes
   pub lines : IsLines bytes tables
-  pub report : Took taken taken' (rank_report tables)
+  pub report : Took taken taken' (task_report task tables front)
   pub holds : HoldsEachOnce tables front
   pub first : IsFirstInShare (map (place front) tables) workers 0
 
@@ -49,10 +48,10 @@ pub record BadLineRun (left left' taken taken' : Option (List ℕ)) (front : Lis
   pub nothing_added : front ≡ []
 
 -- the tables of a text, and what the registry and the report have of them
-pub record Reported (text : List ℕ) (workers : ℕ) (front : List Table) (report : List ℕ) : Type 0 where
+pub record Reported (task : Task) (text : List ℕ) (workers : ℕ) (front : List Table) (report : List ℕ) : Type 0 where
   pub tables : List Table
   pub lines : IsLines text tables
-  pub is_report : report ≡ rank_report tables
+  pub is_report : report ≡ task_report task tables front
   pub holds : HoldsEachOnce tables front
   pub first : IsFirstInShare (map (place front) tables) workers 0
 
@@ -67,8 +66,9 @@ pub record MemoryRun (left left' taken taken' : Option (List ℕ)) (front : List
 
 -- a write failed: a proper part of the report was taken, and the registry holds its tables
 pub record WriteFaultRun (words : List (List ℕ)) (left left' taken taken' : Option (List ℕ)) (front : List Table) : Type 0 where
+  pub task : Task
   pub workers : ℕ
-  pub command : IsRanks words workers
+  pub command : IsCommand words task workers
   pub bytes : List ℕ
   pub tables : List Table
   pub read : ReadToEnd left left' bytes
@@ -76,15 +76,16 @@ pub record WriteFaultRun (words : List (List ℕ)) (left left' taken taken' : Op
   pub holds : HoldsEachOnce tables front
   pub first : IsFirstInShare (map (place front) tables) workers 0
   pub written : ℕ
-  pub proper : written < length (rank_report tables)
-  pub part : Took taken taken' (take written (rank_report tables))
+  pub proper : written < length (task_report task tables front)
+  pub part : Took taken taken' (take written (task_report task tables front))
 
 -- the words are a command, the input spells tables and was told throughout, and no device failed
 pub record CleanRun (words : List (List ℕ)) (left left' : Option (List ℕ)) (read_before read_after write_before write_after : ℕ) : Type 0 where
+  pub task : Task
   pub workers : ℕ
   pub bytes : List ℕ
   pub tables : List Table
-  pub command : IsRanks words workers
+  pub command : IsCommand words task workers
   pub told : left ≡ Some bytes
   pub still_told : IsSome left'
   pub fits : length bytes ≤ input_limit
@@ -94,9 +95,10 @@ pub record CleanRun (words : List (List ℕ)) (left left' : Option (List ℕ)) (
 
 -- the words are a command, the input was told throughout and has this bad line, and no read failed
 pub record CleanBadRun (words : List (List ℕ)) (left left' : Option (List ℕ)) (read_before read_after : ℕ) (line : ℕ) : Type 0 where
+  pub task : Task
   pub workers : ℕ
   pub bytes : List ℕ
-  pub command : IsRanks words workers
+  pub command : IsCommand words task workers
   pub told : left ≡ Some bytes
   pub still_told : IsSome left'
   pub fits : length bytes ≤ input_limit

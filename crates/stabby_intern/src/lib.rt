@@ -1,15 +1,16 @@
 //! Interning from bytes to a report.
 //!
-//! `run` reads tables from a source, numbers them in one registry, and writes their ranks and the distinct tables. Its
-//! contract is the headline: for every valid input and worker count the report is the rank report of the tables, and
-//! the registry holds exactly these tables, each numbered by the place where it was added. Each other status has its
-//! cause there too.
+//! `run` reads tables from a source, numbers them in one registry, and writes their ranks or their numbers, and the
+//! distinct tables. Its contract is the headline: for every valid input, worker count and schedule the report is the one
+//! that the command asks for, and the registry holds exactly these tables, each numbered by the place where it was added.
+//! Each other status has its cause there too, and a line in the log.
 #![tactic(auto)]
 
 mod command;
 mod device;
 mod lines;
 mod memory;
+mod messages;
 mod program;
 mod report;
 mod standard;
@@ -25,5 +26,7 @@ pub use standard::{StderrSink, StdinSource, StdoutSink};
 pub use status::Status;
 pub use sure::{SureSink, SureSource};
 
+#[cfg(test)]
+mod overlap_tests;
 #[cfg(test)]
 mod tests;

@@ -1,39 +1,113 @@
 //! The text of a report.
 
-ghost use Rattle.std.specs.Prelude.{◌≡◌, ◌++◌, ◌∷◌, [], map, IfOk, IfErr, OnOk, if◌then◌else◌};
+ghost use Rattle.std.specs.Prelude.{◌≡◌, ◌++◌, ◌∷◌, ◌<◌, ℕ, [], length, map, IfOk, IfErr, OnOk, All, if◌then◌else◌};
+ghost use Rattle.std.specs.List.{range_with_len};
 ghost use Rattle.std.specs.Fmt.{decimal};
+ghost use Rattle.stabby_tables.specs.Lists.{ordered, IsDistinct};
 ghost use Rattle.stabby_tables.specs.Lines.{ended};
 ghost use Rattle.stabby_tables.specs.Reports.{spelled};
+ghost use Rattle.stabby_registry.specs.Catalog.{listed};
+ghost use Rattle.stabby_registry.specs.Interned.{CanRank};
+ghost use Rattle.stabby_intern.specs.Printing.{text_of, table_in};
 
+use crate::command::Task;
 use itoa::Buffer;
 use stabby_layout::AllocationError;
-use stabby_registry::{Numbered, WordTable};
+use stabby_registry::{Interned, Numbered, WordTable, ranks};
 use std::alloc::Global;
 
-/// A line for each rank, and one for each table.
+/// The report of a task on interned tables, whose entries are the ordered ones of a list of distinct tables.
 pub fn make_report(
     alloc: Global,
-    ranks: &[u64],
-    entries: &[Numbered],
+    task: Task,
+    interned: &Interned,
 ) -> Result<Vec<u8>, AllocationError>
-    ensures report { IfOk result (λ report. report.items ≡ ended (map decimal ranks.now) ++ ended (map (λ e. spelled e.0) entries.now)) }
+    requires can_rank { CanRank interned.now.entries interned.now.numbers }
+    requires in_order { ordered (listed interned.now.entries) ≡ interned.now.entries }
+    requires distinct { IsDistinct (listed interned.now.entries) }
+    ensures report { IfOk result (λ report. report.items ≡ text_of task interned.now) }
     ensures memory { IfErr result (λ error. error ≡ AllocationError.Memory) }
 {
-    let mut report = Vec::new(alloc);
-    for rank in ranks {
-        push_number(&mut report, *rank)?;
-        report.push(b'\n')?;
+    match task {
+        Task::Ranks => make_rank_report(alloc, interned),
+        Task::Numbers => make_number_report(alloc, interned),
     }
+}
+
+// A line for each rank, and then one for each table, in increasing order.
+fn make_rank_report(alloc: Global, interned: &Interned) -> Result<Vec<u8>, AllocationError>
+    requires can_rank { CanRank interned.now.entries interned.now.numbers }
+    ensures report { IfOk result (λ report. report.items ≡ text_of Task.Ranks interned.now) }
+    ensures memory { IfErr result (λ error. error ≡ AllocationError.Memory) }
+{
+    let entries = interned.entries();
+    let ranks = ranks(alloc, entries, interned.numbers())?;
+    let mut report = Vec::new(alloc);
+    push_numbers(&mut report, &ranks)?;
     push_entries(&mut report, entries)?;
     Ok(report)
 }
 
+// A line for each number, and then one for each table, in the order of the numbers.
+fn make_number_report(alloc: Global, interned: &Interned) -> Result<Vec<u8>, AllocationError>
+    requires can_rank { CanRank interned.now.entries interned.now.numbers }
+    requires in_order { ordered (listed interned.now.entries) ≡ interned.now.entries }
+    requires distinct { IsDistinct (listed interned.now.entries) }
+    ensures report { IfOk result (λ report. report.items ≡ text_of Task.Numbers interned.now) }
+    ensures memory { IfErr result (λ error. error ≡ AllocationError.Memory) }
+{
+    let entries = interned.entries();
+    let places = ranks(alloc, entries, &numbers_below(alloc, entries.len())?)?;
+    let mut report = Vec::new(alloc);
+    push_numbers(&mut report, interned.numbers())?;
+    push_at_places(&mut report, entries, &places)?;
+    Ok(report)
+}
+
+// A line for each number.
+fn push_numbers(report: &mut Vec<u8>, numbers: &[u64]) -> Result<(), AllocationError>
+    ensures numbers { OnOk result (report.new.items ≡ report.old.items ++ ended (map decimal numbers.now)) }
+    ensures memory { IfErr result (λ error. error ≡ AllocationError.Memory) }
+{
+    for number in numbers {
+        push_number(report, *number)?;
+        report.push(b'\n')?;
+    }
+    Ok(())
+}
+
+// The numbers below a count, in order.
+fn numbers_below(alloc: Global, count: usize) -> Result<Vec<u64>, AllocationError>
+    ensures numbers { IfOk result (λ numbers. numbers.items ≡ range_with_len 0 count) }
+    ensures memory { IfErr result (λ error. error ≡ AllocationError.Memory) }
+{
+    Ok((0..count as u64).collect(alloc)?)
+}
+
+// A line for the table of each entry.
 fn push_entries(report: &mut Vec<u8>, entries: &[Numbered]) -> Result<(), AllocationError>
     ensures tables { OnOk result (report.new.items ≡ report.old.items ++ ended (map (λ e. spelled e.0) entries.now)) }
     ensures memory { IfErr result (λ error. error ≡ AllocationError.Memory) }
 {
     for entry in entries {
         push_table(report, entry.table())?;
+        report.push(b'\n')?;
+    }
+    Ok(())
+}
+
+// A line for the table of the entry at each of the places.
+fn push_at_places(
+    report: &mut Vec<u8>,
+    entries: &[Numbered],
+    places: &[u64],
+) -> Result<(), AllocationError>
+    requires places { All (λ place. place < length entries.now) places.now }
+    ensures tables { OnOk result (report.new.items ≡ report.old.items ++ ended (map (λ place. spelled (table_in entries.now place)) places.now)) }
+    ensures memory { IfErr result (λ error. error ≡ AllocationError.Memory) }
+{
+    for place in places {
+        push_table(report, entries[*place as usize].table())?;
         report.push(b'\n')?;
     }
     Ok(())

@@ -1,5 +1,6 @@
 //! The worked rows, through `run` over devices in memory.
 
+use crate::messages::tell;
 use crate::{
     MemorySink, MemorySource, Sink, Source, Status, StderrSink, StdinSource, StdoutSink, SureSink,
     SureSource, run,
@@ -11,6 +12,8 @@ use std::sync::Wait;
 use std::test::Fail;
 use std::thread::Threads;
 
+const USAGE: &str = "usage: stabby_intern ranks W, numbers W, gen N D W\n";
+
 // How a run ended, and how many tables its registry holds.
 #[derive(Drop)]
 struct Ended {
@@ -18,20 +21,20 @@ struct Ended {
     seen: u64,
 }
 
-// Runs the command over a source and a sink, and a fresh registry.
-fn run_over<S: Source, K: Sink, H: Threads + Wait + Sync>(
+// Runs the command over a source, a sink and a log, and a fresh registry.
+fn run_over<S: Source, K: Sink, E: Sink, H: Threads + Wait + Sync>(
     rt: &H,
     alloc: Global,
     command: &[&str],
     source: &mut S,
     out: &mut K,
+    log: &mut E,
 ) -> Result<Ended, &'static str> {
     let mut words = Vec::new(alloc);
     for word in command {
         let word = String::from_str(alloc, *word).map_err(|_| "memory")?;
         words.push(word).map_err(|_| "memory")?;
     }
-    let mut log = SureSink::new(alloc, 100).map_err(|_| "memory")?;
     let (mut registry, mut pass) = VtBtree::<5>::new(alloc).map_err(|_| "memory")?;
     let status = run(
         rt,
@@ -39,7 +42,7 @@ fn run_over<S: Source, K: Sink, H: Threads + Wait + Sync>(
         &words,
         source,
         out,
-        &mut log,
+        log,
         &mut registry,
         &mut pass,
         &OpenGate,
@@ -55,171 +58,235 @@ fn source_of(alloc: Global, input: &str) -> Result<MemorySource, &'static str> {
     Ok(MemorySource::new(bytes, 2, Vec::new(alloc)))
 }
 
-// Whether the command over the input ends so, writes this and leaves so many tables in the registry.
-fn gives<H: Threads + Wait + Sync>(
+// What a run is to leave: its status, the output, the line in the log, and how many tables its registry holds.
+#[derive(Clone, Copy)]
+struct Wanted {
+    status: Status,
+    output: &'static str,
+    line: &'static str,
+    seen: u64,
+}
+
+impl Wanted {
+    fn report(output: &'static str, seen: u64) -> Wanted {
+        Wanted {
+            status: Status::Ok,
+            output,
+            line: "",
+            seen,
+        }
+    }
+
+    fn refusal(status: Status, line: &'static str) -> Wanted {
+        Wanted {
+            status,
+            output: "",
+            line,
+            seen: 0,
+        }
+    }
+}
+
+// Whether the command over the input leaves this.
+fn leaves<H: Threads + Wait + Sync>(
     rt: &H,
     alloc: Global,
     command: &[&str],
     input: &str,
-    status: Status,
-    output: &str,
-    seen: u64,
+    wanted: Wanted,
 ) -> Result<bool, &'static str> {
     let mut source = source_of(alloc, input)?;
     let mut out = MemorySink::new(alloc, 1000, 3, Vec::new(alloc)).map_err(|_| "memory")?;
-    let ended = run_over(rt, alloc, command, &mut source, &mut out)?;
-    Ok(ended.status == status && out.taken() == output.as_bytes() && ended.seen == seen)
+    let mut log = MemorySink::new(alloc, 100, 7, Vec::new(alloc)).map_err(|_| "memory")?;
+    let ended = run_over(rt, alloc, command, &mut source, &mut out, &mut log)?;
+    Ok(
+        ended.status == wanted.status
+            && out.taken() == wanted.output.as_bytes()
+            && log.taken() == wanted.line.as_bytes()
+            && ended.seen == wanted.seen,
+    )
 }
 
 #[test]
 fn empty_input(rt: HostRuntime) -> Result<(), Fail> {
-    assert!(rt; gives(&rt, rt.alloc(), &["ranks", "1"], "", Status::Ok, "", 0)?);
+    let nothing = Wanted::report("", 0);
+    assert!(rt; leaves(&rt, rt.alloc(), &["ranks", "1"], "", nothing)?);
+    assert!(rt; leaves(&rt, rt.alloc(), &["numbers", "1"], "", nothing)?);
     Ok(())
 }
 
 #[test]
 fn repeat_gets_one_rank(rt: HostRuntime) -> Result<(), Fail> {
-    assert!(rt;
-        gives(
-            &rt,
-            rt.alloc(),
-            &["ranks", "2"],
-            "1 2\n3\n1 2\n",
-            Status::Ok,
-            "0\n1\n0\n1 2\n3\n",
-            2
-        )?
-    );
-    assert!(rt;
-        gives(
-            &rt,
-            rt.alloc(),
-            &["ranks", "1"],
-            "1 2\n3\n1 2",
-            Status::Ok,
-            "0\n1\n0\n1 2\n3\n",
-            2
-        )?
-    );
+    let report = Wanted::report("0\n1\n0\n1 2\n3\n", 2);
+    assert!(rt; leaves(&rt, rt.alloc(), &["ranks", "2"], "1 2\n3\n1 2\n", report)?);
+    assert!(rt; leaves(&rt, rt.alloc(), &["ranks", "1"], "1 2\n3\n1 2", report)?);
     Ok(())
 }
 
 #[test]
 fn empty_tables_many_workers(rt: HostRuntime) -> Result<(), Fail> {
-    assert!(rt;
-        gives(
-            &rt,
-            rt.alloc(),
-            &["ranks", "64"],
-            "\n\n5",
-            Status::Ok,
-            "0\n0\n1\n\n5\n",
-            2
-        )?
-    );
+    let report = Wanted::report("0\n0\n1\n\n5\n", 2);
+    assert!(rt; leaves(&rt, rt.alloc(), &["ranks", "64"], "\n\n5", report)?);
+    Ok(())
+}
+
+#[test]
+fn numbers_in_order_of_insertion(rt: HostRuntime) -> Result<(), Fail> {
+    let report = Wanted::report("0\n1\n0\n5\n3\n", 2);
+    assert!(rt; leaves(&rt, rt.alloc(), &["numbers", "1"], "5\n3\n5\n", report)?);
+    let report = Wanted::report("0\n1\n2\n0\n1 0\n1\n\n", 3);
+    assert!(rt; leaves(&rt, rt.alloc(), &["numbers", "1"], "1 0\n1\n\n1 0", report)?);
     Ok(())
 }
 
 #[test]
 fn greatest_word_and_leading_zeros(rt: HostRuntime) -> Result<(), Fail> {
     let input = "18446744073709551615\n00018446744073709551615";
-    assert!(rt;
-        gives(
-            &rt,
-            rt.alloc(),
-            &["ranks", "1"],
-            input,
-            Status::Ok,
-            "0\n0\n18446744073709551615\n",
-            1
-        )?
-    );
-    assert!(rt;
-        gives(
-            &rt,
-            rt.alloc(),
-            &["ranks", "0001"],
-            "007\n",
-            Status::Ok,
-            "0\n7\n",
-            1
-        )?
-    );
+    let report = Wanted::report("0\n0\n18446744073709551615\n", 1);
+    assert!(rt; leaves(&rt, rt.alloc(), &["ranks", "1"], input, report)?);
+    let report = Wanted::report("0\n7\n", 1);
+    assert!(rt; leaves(&rt, rt.alloc(), &["ranks", "0001"], "007\n", report)?);
     Ok(())
 }
 
 #[test]
 fn word_past_the_limit(rt: HostRuntime) -> Result<(), Fail> {
-    let bad = Status::BadWord { line: 2 };
-    assert!(rt;
-        gives(
-            &rt,
-            rt.alloc(),
-            &["ranks", "1"],
-            "1\n18446744073709551616\n",
-            bad,
-            "",
-            0
-        )?
-    );
+    let refusal = Wanted::refusal(Status::BadWord { line: 2 }, "line 2: not a table\n");
+    let input = "1\n18446744073709551616\n";
+    assert!(rt; leaves(&rt, rt.alloc(), &["ranks", "1"], input, refusal)?);
+    assert!(rt; leaves(&rt, rt.alloc(), &["numbers", "1"], input, refusal)?);
     Ok(())
 }
 
 #[test]
 fn malformed_lines(rt: HostRuntime) -> Result<(), Fail> {
-    let bad = Status::BadWord { line: 1 };
+    let refusal = Wanted::refusal(Status::BadWord { line: 1 }, "line 1: not a table\n");
     for input in ["1 2 \n", " 1\n", "1  2\n", "1\r\n"] {
-        assert!(rt; gives(&rt, rt.alloc(), &["ranks", "1"], input, bad, "", 0)?);
+        assert!(rt; leaves(&rt, rt.alloc(), &["ranks", "1"], input, refusal)?);
     }
     Ok(())
 }
 
 #[test]
 fn prefix_before_longer(rt: HostRuntime) -> Result<(), Fail> {
-    let output = "2\n3\n1\n0\n\n0 9\n1\n1 0\n";
-    assert!(rt;
-        gives(
-            &rt,
-            rt.alloc(),
-            &["ranks", "2"],
-            "1\n1 0\n0 9\n\n",
-            Status::Ok,
-            output,
-            4
-        )?
-    );
+    let report = Wanted::report("2\n3\n1\n0\n\n0 9\n1\n1 0\n", 4);
+    assert!(rt; leaves(&rt, rt.alloc(), &["ranks", "2"], "1\n1 0\n0 9\n\n", report)?);
     Ok(())
 }
 
-#[test]
-fn words_that_are_no_command(rt: HostRuntime) -> Result<(), Fail> {
-    let alloc = rt.alloc();
-    assert!(rt; gives(&rt, alloc, &["ranks", "0"], "1\n", Status::Usage, "", 0)?);
-    assert!(rt; gives(&rt, alloc, &["ranks", "65"], "1\n", Status::Usage, "", 0)?);
-    assert!(rt; gives(&rt, alloc, &["ranks"], "1\n", Status::Usage, "", 0)?);
-    assert!(rt; gives(&rt, alloc, &["rank", "1"], "1\n", Status::Usage, "", 0)?);
-    assert!(rt; gives(&rt, alloc, &["--help"], "1\n", Status::Usage, "", 0)?);
-    Ok(())
-}
-
-#[test]
-fn read_and_write_faults(rt: HostRuntime) -> Result<(), Fail> {
-    let alloc = rt.alloc();
-    let mut fails = Vec::new(alloc);
-    fails.push(1)?;
-    let mut source = MemorySource::new(b"1\n".to_vec(alloc)?, 2, fails);
+// Whether a run over so many zeros and no newline ends so, with this output and this line in the log.
+fn zeros_leave<H: Threads + Wait + Sync>(
+    rt: &H,
+    alloc: Global,
+    zeros: usize,
+    wanted: Wanted,
+) -> Result<bool, &'static str> {
+    let bytes = vec![in alloc; b'0'; zeros].map_err(|_| "memory")?;
+    let mut source = SureSource::new(bytes);
     let mut out = MemorySink::new(alloc, 1000, 3, Vec::new(alloc)).map_err(|_| "memory")?;
-    let ended = run_over(&rt, alloc, &["ranks", "1"], &mut source, &mut out)?;
-    assert!(rt;
-        ended.status == Status::ReadFault && ended.status.code() == 5 && out.taken().is_empty()
-    );
+    let mut log = MemorySink::new(alloc, 100, 7, Vec::new(alloc)).map_err(|_| "memory")?;
+    let ended = run_over(rt, alloc, &["ranks", "1"], &mut source, &mut out, &mut log)?;
+    Ok(
+        ended.status == wanted.status
+            && out.taken() == wanted.output.as_bytes()
+            && log.taken() == wanted.line.as_bytes()
+            && ended.seen == wanted.seen,
+    )
+}
 
+#[test]
+fn largest_input(rt: HostRuntime) -> Result<(), Fail> {
+    let report = Wanted::report("0\n0\n", 1);
+    assert!(rt; zeros_leave(&rt, rt.alloc(), 16_777_216, report)?);
+    let refusal = Wanted::refusal(Status::TooLong, "input longer than 16777216 bytes\n");
+    assert!(rt; zeros_leave(&rt, rt.alloc(), 16_777_217, refusal)?);
+    Ok(())
+}
+
+// Whether a run ends at the second read, which fails, with nothing written.
+fn ends_at_a_read<H: Threads + Wait + Sync>(rt: &H, alloc: Global) -> Result<bool, &'static str> {
+    let mut fails = Vec::new(alloc);
+    fails.push(1).map_err(|_| "memory")?;
+    let bytes = b"1\n".to_vec(alloc).map_err(|_| "memory")?;
+    let mut source = MemorySource::new(bytes, 2, fails);
+    let mut out = MemorySink::new(alloc, 1000, 3, Vec::new(alloc)).map_err(|_| "memory")?;
+    let mut log = MemorySink::new(alloc, 100, 7, Vec::new(alloc)).map_err(|_| "memory")?;
+    let ended = run_over(rt, alloc, &["ranks", "1"], &mut source, &mut out, &mut log)?;
+    Ok(
+        ended.status == Status::ReadFault
+            && ended.seen == 0
+            && out.taken().is_empty()
+            && log.taken() == "read fault\n".as_bytes(),
+    )
+}
+
+// Whether a run ends at a write into a sink that has room for three bytes.
+fn ends_at_a_write<H: Threads + Wait + Sync>(rt: &H, alloc: Global) -> Result<bool, &'static str> {
     let mut source = source_of(alloc, "1 2\n3\n1 2\n")?;
     let mut out = MemorySink::new(alloc, 3, 3, Vec::new(alloc)).map_err(|_| "memory")?;
-    let ended = run_over(&rt, alloc, &["ranks", "2"], &mut source, &mut out)?;
+    let mut log = MemorySink::new(alloc, 100, 7, Vec::new(alloc)).map_err(|_| "memory")?;
+    let ended = run_over(rt, alloc, &["ranks", "2"], &mut source, &mut out, &mut log)?;
+    Ok(
+        ended.status == Status::WriteFault
+            && ended.seen == 2
+            && out.taken() == "0\n1".as_bytes()
+            && log.taken() == "write fault\n".as_bytes(),
+    )
+}
+
+#[test]
+fn device_faults_and_usage(rt: HostRuntime) -> Result<(), Fail> {
+    let alloc = rt.alloc();
+    assert!(rt; ends_at_a_read(&rt, alloc)?);
+    assert!(rt; ends_at_a_write(&rt, alloc)?);
+    let refusal = Wanted::refusal(Status::Usage, USAGE);
+    assert!(rt; leaves(&rt, alloc, &["ranks", "0"], "1\n", refusal)?);
+    assert!(rt; leaves(&rt, alloc, &["ranks", "65"], "1\n", refusal)?);
+    assert!(rt; leaves(&rt, alloc, &["ranks"], "1\n", refusal)?);
+    assert!(rt; leaves(&rt, alloc, &["rank", "1"], "1\n", refusal)?);
+    assert!(rt; leaves(&rt, alloc, &["numbers", "1", "1"], "1\n", refusal)?);
+    assert!(rt; leaves(&rt, alloc, &["gen", "1", "7", "1"], "1\n", refusal)?);
+    assert!(rt; leaves(&rt, alloc, &["--help"], "1\n", refusal)?);
+    Ok(())
+}
+
+// A log that fails takes the first bytes of the line, and the run ends as it does with another.
+#[test]
+fn fault_of_the_log(rt: HostRuntime) -> Result<(), Fail> {
+    let alloc = rt.alloc();
+    let mut source = source_of(alloc, "1\n1 \n")?;
+    let mut out = SureSink::new(alloc, 100).map_err(|_| "memory")?;
+    let mut log = MemorySink::new(alloc, 6, 7, Vec::new(alloc)).map_err(|_| "memory")?;
+    let ended = run_over(&rt, alloc, &["ranks", "1"], &mut source, &mut out, &mut log)?;
+    assert!(rt; ended.status == Status::BadWord { line: 2 } && log.taken() == "line 2".as_bytes());
+    Ok(())
+}
+
+// Whether a status has this exit code and this line.
+fn tells(alloc: Global, status: Status, code: u8, line: &str) -> Result<bool, &'static str> {
+    let mut log = MemorySink::new(alloc, 100, 7, Vec::new(alloc)).map_err(|_| "memory")?;
+    tell(&mut log, status);
+    Ok(status.code() == code && log.taken() == line.as_bytes())
+}
+
+#[test]
+fn codes_and_lines(rt: HostRuntime) -> Result<(), Fail> {
+    let alloc = rt.alloc();
+    let last = Status::BadWord { line: u64::MAX };
+    assert!(rt; tells(alloc, Status::Ok, 0, "")?);
+    assert!(rt; tells(alloc, Status::Memory, 1, "out of memory\n")?);
+    assert!(rt; tells(alloc, Status::Usage, 2, USAGE)?);
+    assert!(rt; tells(alloc, last, 3, "line 18446744073709551615: not a table\n")?);
     assert!(rt;
-        ended.status == Status::WriteFault && out.taken() == "0\n1".as_bytes() && ended.seen == 2
+        tells(
+            alloc,
+            Status::TooLong,
+            4,
+            "input longer than 16777216 bytes\n"
+        )?
     );
+    assert!(rt; tells(alloc, Status::ReadFault, 5, "read fault\n")?);
+    assert!(rt; tells(alloc, Status::WriteFault, 6, "write fault\n")?);
     Ok(())
 }
 
@@ -228,8 +295,18 @@ fn sure_devices(rt: HostRuntime) -> Result<(), Fail> {
     let alloc = rt.alloc();
     let mut source = SureSource::new(b"7\n7\n".to_vec(alloc)?);
     let mut out = SureSink::new(alloc, 5).map_err(|_| "memory")?;
-    let ended = run_over(&rt, alloc, &["ranks", "1"], &mut source, &mut out)?;
-    assert!(rt; ended.status == Status::Ok && out.kept() == "0\n0\n7".as_bytes());
+    let mut log = SureSink::new(alloc, 5).map_err(|_| "memory")?;
+    let ended = run_over(&rt, alloc, &["ranks", "1"], &mut source, &mut out, &mut log)?;
+    assert!(rt;
+        ended.status == Status::Ok && out.kept() == "0\n0\n7".as_bytes() && log.kept().is_empty()
+    );
+    Ok(())
+}
+
+// The sinks: no room is needed to make one.
+#[test]
+fn small_cells_and_sinks(rt: HostRuntime) -> Result<(), Fail> {
+    let alloc = rt.alloc();
     assert!(rt; SureSink::new(alloc, 0).is_ok());
     assert!(rt; MemorySink::new(alloc, 0, 1, Vec::new(alloc)).is_ok());
     Ok(())

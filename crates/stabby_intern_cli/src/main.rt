@@ -1,5 +1,5 @@
-//! The program `stabby_intern`: `ranks W` reads tables from standard input, and writes each table's rank and the distinct
-//! tables to standard output.
+//! The program `stabby_intern`: `ranks W` and `numbers W` read tables from standard input, and write each table's rank or
+//! number, and the distinct tables, to standard output. A line on standard error tells of a run that didn't end well.
 #![tactic(auto)]
 
 use stabby_intern::{StderrSink, StdinSource, StdoutSink, run};

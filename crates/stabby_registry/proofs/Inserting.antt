@@ -1,10 +1,10 @@
 -- What the last turn of an insert says of the whole call.
-use Rattle.std.proofs.Common.{◌≡◌, ℕ, ◌+◌, ◌-◌, ◌^◌, ◌<◌, ◌≤◌, List, [], ◌∷◌, ◌++◌, length, true, false, sym, refl, ap, ◌∙◌, subst, arith, inl, inr, if◌then◌else◌}
+use Rattle.std.proofs.Common.{◌≡◌, ℕ, ◌+◌, ◌-◌, ◌^◌, ◌<◌, ◌≤◌, List, [], ◌∷◌, ◌++◌, length, true, false, sym, refl, ap, ◌∙◌, subst, arith, inl, inr}
 use mathlib.Core.Bool.{false≢true}
 use Rattle.stabby_cell.specs.declared.chronicle.Chronicle.{Ghosts}
 use Rattle.stabby_cell.specs.declared.pass.Pass.{Pass}
 use Rattle.stabby_cell.specs.Recording.{ViewAdvances}
-use Rattle.stabby_cell.specs.Passes.{front_of, first_stamp_of, stamp_of, commits_of, opening_stamp_of, IsPassOf, IsWhole, Looked, AddedNoCommit, Committed}
+use Rattle.stabby_cell.specs.Passes.{front_of, first_stamp_of, stamp_of, commits_of, opening_stamp_of, IsPassOf, IsWhole, Looked, Committed}
 use Rattle.stabby_cell.proofs.CallLemmas.{no_commit_looked}
 use Rattle.stabby_tables.specs.Tables.{Table}
 use Rattle.stabby_tables.specs.Lists.{has, with_table, place, IsDistinct}
@@ -37,6 +37,7 @@ module _ {size : ℕ} {g : Ghosts (List Table) Table} where
         number = subst (λ f. IsNumber f t n) (sym (Committed.front here)) (subst (IsNumber (front_of q ++ t ∷ []) t) (sym number) (number_last (front_of q) t));
         adds = record {
           before = front_of q;
+          grown = ViewAdvances.front (Looked.advances looked);
           committed = whole;
           absent = absent;
           number = number;

@@ -5,4 +5,6 @@ pub mod EntryPlaces
 pub mod Versions
 pub mod PassLemmas
 pub mod Inserting
+pub mod Working
+pub mod Joining
 pub mod Trying

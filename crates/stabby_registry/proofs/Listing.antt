@@ -1,5 +1,5 @@
 -- The entries of a catalog and the list of tables that they stand for.
-use Rattle.std.proofs.Common.{◌≡◌, ℕ, zero, suc, ◌+◌, ◌<◌, ◌≤◌, List, [], ◌∷◌, ◌++◌, length, map, refl, sym, ◌∙◌, ap, subst, arith, Bool, true, false, ◌||◌, ◌==◌, if◌then◌else◌, add-one, length-append, eqb, Option, Some, None, min, ◌^◌, ◌-◌}
+use Rattle.std.proofs.Common.{◌≡◌, ℕ, zero, suc, ◌+◌, ◌<◌, ◌≤◌, List, [], ◌∷◌, ◌++◌, length, map, refl, sym, ◌∙◌, ap, subst, arith, Bool, true, false, ◌==◌, if◌then◌else◌, add-one, length-append, Option, Some, None, min, ◌^◌, ◌-◌}
 use mathlib.Core.Bool.{false≢true}
 use Rattle.std.specs.List.{AllByRecursion}
 use Rattle.std.specs.Cmp.Lexicographic.{slice_cmp}
@@ -8,11 +8,12 @@ use Rattle.std.specs.declared.cmp.Ordering.{Ordering}
 use Rattle.std.specs.declared.cmp.Ordering.TheVariants.{Less, Equal, Greater}
 use Rattle.std.proofs.lemmas.Bool.Decides.{nat_tests}
 use Rattle.stabby_tables.specs.Tables.{Table, is_before, is_same}
-use Rattle.stabby_tables.specs.Lists.{has, distinct, place, placed, increasing, ordered, IsDistinct}
+use Rattle.stabby_tables.specs.Lists.{has, place, placed, increasing, ordered}
 use Rattle.stabby_tables.proofs.Order.{before_is_less, same_is_equal}
-use Rattle.stabby_tables.proofs.Growing.{same_itself, equal_from_same, other_than_member, has_last, place_old, place_last, place_below, increasing_push, distinct_more, has_increasing}
+use Rattle.stabby_tables.proofs.Growing.{same_itself, equal_from_same, other_than_member, place_old, place_last, place_below, increasing_push, distinct_more, has_increasing}
 use Rattle.stabby_tree.specs.Sets.{found, put, inserted}
 use Rattle.stabby_registry.specs.Catalog.{table_at, tables_below, listed, IsCatalog}
+use Rattle.stabby_registry.specs.Work.{AreIn}
 
 abbrev pub Entry : Type 0
 Entry = Table × ℕ
@@ -78,14 +79,11 @@ module _ (f : List Table) where
   abbrev pub pairs : List Table → List Entry
   pairs s = map (λ u. (u, place f u)) s
 
-  abbrev pub AllIn : List Table → Type 0
-  AllIn s = AllByRecursion (λ u. has f u ≡ true) s
-
-  pub pairs_lack : (s : List Table) (t : Table) → AllIn s → has f t ≡ false → Lacks (pairs s) t
+  pub pairs_lack : (s : List Table) (t : Table) → AreIn f s → has f t ≡ false → Lacks (pairs s) t
   pairs_lack [] t all absent = tt
   pairs_lack (u ∷ s) t all absent = (other_than_member f u t all.0 absent, pairs_lack s t all.1 absent)
 
-  pub pairs_below : (s : List Table) → AllIn s → NumberedBelow (pairs s) (length f)
+  pub pairs_below : (s : List Table) → AreIn f s → NumberedBelow (pairs s) (length f)
   pairs_below [] all = tt
   pairs_below (u ∷ s) all = (place_below f u all.0, pairs_below s all.1)
 
@@ -99,11 +97,11 @@ module _ (f : List Table) where
       by false other rest = rest
 
   module _ (t : Table) (absent : has f t ≡ false) where
-    pairs_same : (s : List Table) → AllIn s → map (λ u. (u, place (f ++ t ∷ []) u)) s ≡ pairs s
+    pairs_same : (s : List Table) → AreIn f s → map (λ u. (u, place (f ++ t ∷ []) u)) s ≡ pairs s
     pairs_same [] all = refl
     pairs_same (u ∷ s) all = rw (place_old f (t ∷ []) u all.0, pairs_same s all.1) refl
 
-    push_by : (o : Ordering) (u : Table) (s : List Table) → slice_cmp nat_cmp u t ≡ o → has f u ≡ true → AllIn s
+    push_by : (o : Ordering) (u : Table) (s : List Table) → slice_cmp nat_cmp u t ≡ o → has f u ≡ true → AreIn f s
         → map (λ u. (u, place (f ++ t ∷ []) u)) (placed t s) ≡ put table_of (slice_cmp nat_cmp) (pairs s) (t, length f)
         → map (λ u. (u, place (f ++ t ∷ []) u)) (if is_before u t then u ∷ placed t s else (if is_same u t then u ∷ s else t ∷ u ∷ s))
         ≡ match_ordering o ((u, place f u) ∷ put table_of (slice_cmp nat_cmp) (pairs s) (t, length f)) ((t, length f) ∷ pairs s) ((t, length f) ∷ (u, place f u) ∷ pairs s)
@@ -111,15 +109,15 @@ module _ (f : List Table) where
     push_by Equal u s e member all rest = absurd (false≢true (sym (other_than_member f u t member absent) ∙ (order_of u t Equal e).same))
     push_by Greater u s e member all rest = rw ((order_of u t Greater e).before, (order_of u t Greater e).same, place_last f t absent, place_old f (t ∷ []) u member, pairs_same s all) refl
 
-    pub pairs_push : (s : List Table) → AllIn s → map (λ u. (u, place (f ++ t ∷ []) u)) (placed t s) ≡ put table_of (slice_cmp nat_cmp) (pairs s) (t, length f)
+    pub pairs_push : (s : List Table) → AreIn f s → map (λ u. (u, place (f ++ t ∷ []) u)) (placed t s) ≡ put table_of (slice_cmp nat_cmp) (pairs s) (t, length f)
     pairs_push [] all = rw (place_last f t absent) refl
     pairs_push (u ∷ s) all = push_by (slice_cmp nat_cmp u t) u s refl all.0 all.1 (pairs_push s all.1)
 
-pub all_in_from : (f s : List Table) → ((u : Table) → has s u ≡ true → has f u ≡ true) → AllIn f s
+pub all_in_from : (f s : List Table) → ((u : Table) → has s u ≡ true → has f u ≡ true) → AreIn f s
 all_in_from f [] h = tt
 all_in_from f (u ∷ s) h = (h u (rw (same_itself u) refl), all_in_from f s (λ v member. h v (elim (is_same u v) as (λ b. (if b then true else has s v) ≡ true) [ true ↦ refl | false ↦ member ])))
 
-pub all_in_order : (f : List Table) → AllIn f (increasing f)
+pub all_in_order : (f : List Table) → AreIn f (increasing f)
 all_in_order f = all_in_from f (increasing f) (λ u member. sym (has_increasing f u) ∙ member)
 
 -- the ordered pairs of a list with one table more

@@ -1,5 +1,5 @@
 -- The entries of a list of distinct tables have the numbers below their count, each once.
-use Rattle.std.proofs.Common.{◌≡◌, ◌≢◌, ℕ, zero, suc, ◌+◌, ◌<◌, ◌≤◌, List, [], ◌∷◌, ◌++◌, length, map, refl, sym, ◌∙◌, ap, subst, arith, Bool, true, false, if◌then◌else◌, length-append, ◌||◌, ◌==◌, Some, None, cond, inl, inr, ◌⊎◌}
+use Rattle.std.proofs.Common.{◌≡◌, ℕ, zero, suc, ◌+◌, ◌<◌, ◌≤◌, List, [], ◌∷◌, ◌++◌, length, map, refl, sym, ◌∙◌, ap, subst, arith, Bool, true, false, if◌then◌else◌, length-append, ◌||◌, ◌==◌, Some, None, cond, inl, inr, ◌⊎◌}
 use mathlib.Core.Bool.{false≢true}
 use Rattle.std.specs.List.{fold, slice_index, All, AllByRecursion, find}
 use Rattle.std.proofs.lemmas.Bool.{cases_lt}
@@ -15,9 +15,10 @@ use Rattle.stabby_tables.proofs.Sorted.{rising_increasing, rising_placed, placed
 use Rattle.stabby_tables.proofs.Ranks.{place_injective}
 use Rattle.stabby_registry.specs.Interned.{CanRank}
 use Rattle.stabby_registry.specs.Inserts.{IsNumber}
+use Rattle.stabby_registry.specs.Work.{AreIn}
 use Rattle.stabby_registry.proofs.Versions.{has_number}
-use Rattle.stabby_registry.proofs.Listing.{AllIn, all_in_order, NumberedBelow, pairs_below}
-use Rattle.stabby_registry.proofs.Interning.{places_below}
+use Rattle.stabby_registry.proofs.Listing.{all_in_order, NumberedBelow, pairs_below}
+use Rattle.stabby_registry.proofs.Working.{places_below}
 
 -- ---- as many members in order as there are distinct members
 placed_by : (b e : Bool) (t u : Table) (s : List Table) → is_same u t ≡ e → e ≡ false → length (placed t s) ≡ length s + 1 → length (if b then u ∷ placed t s else (if e then u ∷ s else t ∷ u ∷ s)) ≡ length (u ∷ s) + 1
@@ -70,18 +71,18 @@ length-ordered f once = length-map (increasing f) (λ t. (t, place f t)) ∙ len
 
 -- ---- tables in rising order have different places
 module _ (f : List Table) where
-  first_apart : (t : Table) (s : List Table) (j : ℕ) → has f t ≡ true → AllAfter t s → AllIn f s → j < length s → place f t ≡ slice_index (map (place f) s) j → ⊥
+  first_apart : (t : Table) (s : List Table) (j : ℕ) → has f t ≡ true → AllAfter t s → AreIn f s → j < length s → place f t ≡ slice_index (map (place f) s) j → ⊥
   first_apart t [] j member after all lt e = absurd (omega (arith, lt))
   first_apart t (u ∷ s) zero member after all lt e = absurd (false≢true (sym (before_not_same t u after.0) ∙ place_injective f t u member all.0 e))
   first_apart t (u ∷ s) (suc j) member after all lt e = first_apart t s j member after.1 all.1 (omega arith) e
 
-  places_apart : (s : List Table) (i j : ℕ) → IsRising s → AllIn f s → i < j → j < length s → slice_index (map (place f) s) i ≡ slice_index (map (place f) s) j → ⊥
+  places_apart : (s : List Table) (i j : ℕ) → IsRising s → AreIn f s → i < j → j < length s → slice_index (map (place f) s) i ≡ slice_index (map (place f) s) j → ⊥
   places_apart [] i j up all lt in_range e = absurd (omega (arith, in_range))
   places_apart (t ∷ s) i zero up all lt in_range e = absurd (omega (arith, lt))
   places_apart (t ∷ s) zero (suc j) up all lt in_range e = first_apart t s j all.0 up.0 all.1 (omega arith) e
   places_apart (t ∷ s) (suc i) (suc j) up all lt in_range e = places_apart s i j up.1 all.1 (omega arith) (omega arith) e
 
-  pub can_rank : (ts : List Table) → IsDistinct f → AllIn f ts → CanRank (ordered f) (map (place f) ts)
+  pub can_rank : (ts : List Table) → IsDistinct f → AreIn f ts → CanRank (ordered f) (map (place f) ts)
   can_rank ts once all =
       let long : length (ordered f) ≡ length f = length-ordered f once in
       let short : length (increasing f) ≡ length f = length-increasing f once in
@@ -91,6 +92,11 @@ module _ (f : List Table) where
         once = λ i j lt in_range e. places_apart (increasing f) i j (rising_increasing f) (all_in_order f) lt (omega (arith, in_range, long, short)) (rw (numbers_of_pairs f (increasing f)) at e);
         known = rw long (All-from_recursion (λ n. n < length f) (map (place f) ts) (places_below f ts all));
       }
+
+  pub can_rank_known : (entries : List (Table × ℕ)) (numbers : List ℕ) → IsDistinct f → entries ≡ ordered f → All (λ (n : ℕ). n < length entries) numbers → CanRank entries numbers
+  can_rank_known entries numbers once is known =
+      let none = can_rank [] once tt in
+      record { below = rw is none.below; once = rw is none.once; known = known }
 
 -- ---- the entry that has a number
 module _ (f : List Table) (t : Table) (n : ℕ) (once : IsDistinct f) (at : IsNumber f t n) where
@@ -108,7 +114,7 @@ module _ (f : List Table) (t : Table) (n : ℕ) (once : IsDistinct f) (at : IsNu
       by true same h = absurd (let p : place f u ≡ n = ap (place f) (equal_from_same u t same) ∙ place_is f t n once at in grind (arith, nat_tests))
       by false other h = h
 
-  found_number : (s : List Table) → AllIn f s → has s t ≡ true → find (λ (e : Table × ℕ). e.1 == n) (map (λ u. (u, place f u)) s) ≡ Some (t, n)
+  found_number : (s : List Table) → AreIn f s → has s t ≡ true → find (λ (e : Table × ℕ). e.1 == n) (map (λ u. (u, place f u)) s) ≡ Some (t, n)
   found_number [] all there = absurd (false≢true there)
   found_number (u ∷ s) all there = here_by (place f u == n) u s refl all.0 (found_number s all.1) there
 

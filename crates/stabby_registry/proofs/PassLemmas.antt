@@ -1,6 +1,5 @@
 -- From what the parts of a call say of a registry's pass to what the whole call says.
-use Rattle.std.proofs.Common.{◌≡◌, ℕ, ◌+◌, ◌<◌, ◌≤◌, List, [], ◌∷◌, ◌++◌, length, true, false, sym, refl, ap, ◌∙◌, subst, arith, append_assoc, append-nil, length-append, take}
-use mathlib.Core.Bool.{false≢true}
+use Rattle.std.proofs.Common.{◌≡◌, ℕ, ◌+◌, ◌≤◌, List, [], ◌∷◌, ◌++◌, length, sym, refl, ap, ◌∙◌, subst, arith, append_assoc, append-nil, length-append, take}
 use mathlib.Core.List.{IsPrefix}
 use Rattle.stabby_cell.specs.declared.chronicle.Chronicle.{Ghosts}
 use Rattle.stabby_cell.specs.declared.cell.TurnCell.{TurnCell}
@@ -8,7 +7,7 @@ use Rattle.stabby_cell.specs.declared.pass.Pass.{Pass}
 use Rattle.stabby_cell.specs.declared.view.NotedStep.{NotedStep}
 use Rattle.stabby_cell.specs.declared.view.StepKind.TheVariants.{Commit}
 use Rattle.stabby_cell.specs.Telling.{noted}
-use Rattle.stabby_cell.specs.Recording.{ViewAdvances, commits_in, has_read}
+use Rattle.stabby_cell.specs.Recording.{ViewAdvances, commits_in}
 use Rattle.std.proofs.lemmas.List.{nil_from_length}
 use Rattle.stabby_cell.specs.Passes.{view_of, front_of, first_stamp_of, stamp_of, commits_of, Advances, Looked, AddedNoCommit, Committed, TookTurn, IsPassOf, IsWhole, IsEachOnce}
 use Rattle.stabby_cell.proofs.RecordLemmas.{advances_trans, advances_none, commits_in-append, has_read-after}

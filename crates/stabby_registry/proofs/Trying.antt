@@ -1,12 +1,12 @@
 -- From what the two turns of one try say of a pass to what the whole try says.
-use Rattle.std.proofs.Common.{◌≡◌, ◌≢◌, ℕ, ◌+◌, ◌-◌, ◌^◌, ◌<◌, ◌≤◌, List, [], ◌∷◌, ◌++◌, length, take, true, false, sym, refl, ap, ◌∙◌, subst, arith, append-nil, take_at}
+use Rattle.std.proofs.Common.{◌≡◌, ◌≢◌, ℕ, ◌+◌, ◌^◌, ◌<◌, ◌≤◌, List, [], ◌∷◌, ◌++◌, length, take, false, sym, refl, ap, ◌∙◌, subst, arith, append-nil, take_at}
 use mathlib.Core.List.{IsPrefix}
 use Rattle.stabby_cell.specs.declared.chronicle.Chronicle.{Ghosts}
 use Rattle.stabby_cell.specs.declared.pass.Pass.{Pass}
 use Rattle.stabby_cell.specs.declared.view.StepKind.TheVariants.{Take, Release}
 use Rattle.stabby_cell.specs.Telling.{noted}
 use Rattle.stabby_cell.specs.Recording.{ViewAdvances}
-use Rattle.stabby_cell.specs.Passes.{view_of, front_of, first_stamp_of, stamp_of, weight_of, commits_of, opening_stamp_of, IsWhole, IsEachOnce, IsPassOf, Advances, Looked, Committed, MissedTurn, MissedTurnAtLast}
+use Rattle.stabby_cell.specs.Passes.{view_of, front_of, first_stamp_of, stamp_of, weight_of, commits_of, opening_stamp_of, IsWhole, IsEachOnce, IsPassOf, Advances, Looked, MissedTurn, MissedTurnAtLast}
 use Rattle.stabby_cell.specs.Turns.{GaveBack}
 use Rattle.stabby_cell.proofs.CallLemmas.{no_commit_looked, looked_looked, missed_at_last}
 use Rattle.stabby_cell.proofs.RecordLemmas.{advances_trans, advances_none}
@@ -15,7 +15,7 @@ use Rattle.stabby_tables.specs.Lists.{has}
 use Rattle.stabby_registry.specs.declared.registry.VtBtree.{VtBtree}
 use Rattle.stabby_registry.specs.declared.fault.TryFault.{TryFault}
 use Rattle.stabby_registry.specs.declared.fault.TryFault.TheVariants.{Busy, Moved, Full, Memory}
-use Rattle.stabby_registry.specs.Inserts.{HasMoved, ReadBoth, IsTryFault}
+use Rattle.stabby_registry.specs.Inserts.{HasMoved, IsTryFault}
 use Rattle.stabby_registry.specs.Tries.{IsOwnFault}
 use Rattle.stabby_registry.specs.TryVisits.{VisitedOnce, IsFindFault, IsOfferFault}
 use Rattle.stabby_registry.proofs.PassLemmas.{prefix_length}

@@ -1,10 +1,9 @@
 -- A registry's version is the list of the tables that were committed, and they are distinct.
-use Rattle.std.proofs.Common.{◌≡◌, ℕ, zero, suc, ◌+◌, ◌<◌, ◌≤◌, List, [], ◌∷◌, ◌++◌, length, refl, sym, ◌∙◌, ap, subst, arith, Bool, true, false, ◌||◌, if◌then◌else◌, append_assoc, append-nil, length-append, Option, Some, None, slice_get}
+use Rattle.std.proofs.Common.{◌≡◌, ℕ, zero, suc, List, [], ◌∷◌, ◌++◌, length, refl, sym, ◌∙◌, ap, subst, Bool, true, false, if◌then◌else◌, append_assoc, append-nil, Some, None}
 use mathlib.Core.Bool.{false≢true}
-use mathlib.Core.List.{IsPrefix}
 use Rattle.stabby_tables.specs.Tables.{Table, is_same}
-use Rattle.stabby_tables.specs.Lists.{has, place, distinct, with_table, IsDistinct}
-use Rattle.stabby_tables.proofs.Growing.{same_itself, equal_from_same, has-append, has_old, distinct_more, distinct_push}
+use Rattle.stabby_tables.specs.Lists.{has, place, IsDistinct}
+use Rattle.stabby_tables.proofs.Growing.{same_itself, equal_from_same, distinct_more}
 use Rattle.stabby_cell.specs.Rule.{Reached}
 use Rattle.stabby_cell.specs.declared.chronicle.Chronicle.{Ghosts}
 use Rattle.stabby_cell.specs.declared.turn.Turn.{Turn}

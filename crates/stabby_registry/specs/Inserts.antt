@@ -1,5 +1,6 @@
 -- What an insert says of a pass: the table's number, whether the call added it, and why it was refused.
-use Rattle.std.specs.Prelude.{◌≡◌, ℕ, ◌+◌, ◌-◌, ◌^◌, ◌<◌, ◌≤◌, ◌⊎◌, true, false, List, [], ◌∷◌, ◌++◌, length, take, Some, slice_get}
+use Rattle.std.specs.Prelude.{◌≡◌, ℕ, ◌-◌, ◌^◌, ◌<◌, ◌≤◌, ◌⊎◌, true, false, List, [], ◌∷◌, ◌++◌, length, take, Some, slice_get}
+use mathlib.Core.List.{IsPrefix}
 use Rattle.stabby_cell.specs.declared.chronicle.Chronicle.{Ghosts}
 use Rattle.stabby_cell.specs.declared.pass.Pass.{Pass}
 use Rattle.stabby_cell.specs.declared.view.NotedStep.{NotedStep}
@@ -22,6 +23,7 @@ module _ {g : Ghosts (List Table) Table} where
   -- the call added t, which was absent, at the end of the list, and n, its number, to the pass's commits
   pub record AddsTable (p q : Pass (List Table) Table g) (t : Table) (n : ℕ) : Type 0 where
     pub before : List Table
+    pub grown : IsPrefix (front_of p) before
     pub committed : Committed p q before t
     pub absent : has before t ≡ false
     pub number : n ≡ length before

@@ -1,5 +1,5 @@
 -- The numbers of a list of tables, and the entries that rank them.
-use Rattle.std.specs.Prelude.{◌≡◌, ◌≢◌, ℕ, ◌<◌, List, length, map, slice_index, All}
+use Rattle.std.specs.Prelude.{◌≢◌, ℕ, ◌<◌, List, length, map, slice_index, All}
 use Rattle.stabby_tables.specs.Tables.{Table}
 
 -- what contracts see of an interned list

@@ -1,8 +1,9 @@
 //! A registry's version: a list of distinct tables, kept as a set of numbered tables.
 
-ghost use Rattle.std.specs.Prelude.{◌≡◌, ◌<◌, ◌++◌, ◌∷◌, ◌^◌, [], false, length, ◌-◌, ◌≤◌, MatchOption, IfOk, IfErr, OnOk, OnErr, Some, None, if◌then◌else◌};
+ghost use Rattle.std.specs.Prelude.{◌≡◌, ◌<◌, ◌++◌, ◌∷◌, ◌^◌, [], false, length, ◌-◌, ◌≤◌, ℕ, List, All, MatchOption, IfOk, IfErr, OnOk, OnErr, Some, None, if◌then◌else◌};
 ghost use Rattle.stabby_tables.specs.Lists.{has, place, ordered, IsDistinct};
 ghost use Rattle.stabby_tree.specs.Sets.{IsLimit};
+ghost use Rattle.stabby_registry.specs.Interned.{CanRank};
 
 use crate::numbered::Numbered;
 use crate::table::WordTable;
@@ -83,6 +84,7 @@ impl<const SIZE: usize> Catalog<SIZE> {
     /// `Memory`, where the list or a further handle of a table finds none.
     pub fn entries(&self, alloc: Global) -> Result<Vec<Numbered>, AllocationError>
         ensures ok { IfOk result (λ entries. entries.items ≡ ordered self.now) }
+        ensures can_rank { IfOk result (λ entries. (numbers : List ℕ) → All (λ n. n < length entries.items) numbers → CanRank entries.items numbers) }
         ensures err { IfErr result (λ error. error ≡ AllocationError.Memory) }
     {
         let list = self.entries.to_list(alloc)?;

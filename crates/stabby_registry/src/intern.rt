@@ -1,7 +1,7 @@
 //! Interning a list of tables.
 
 ghost use Rattle.std.specs.Prelude.{◌≡◌, ◌<◌, ◌≤◌, ◌+◌, ◌^◌, ◌-◌, length, map, IfOk, IfErr, OnOk, OnErr};
-ghost use Rattle.stabby_tables.specs.Lists.{place, ordered, with_table, AppendsSome, AppendsAbsent};
+ghost use Rattle.stabby_tables.specs.Lists.{place, ordered, AppendsSome, AppendsAbsent};
 ghost use Rattle.stabby_tables.specs.Shares.{IsFirstInShare};
 ghost use Rattle.stabby_registry.specs.Passes.{IsWhole, IsPassOf, front_of};
 ghost use Rattle.stabby_registry.specs.Interned.{CanRank};
@@ -11,6 +11,7 @@ use crate::gate::Gate;
 use crate::numbered::Numbered;
 use crate::registry::{TreePass, VtBtree};
 use crate::table::WordTable;
+use crate::worker::number_tables;
 use stabby_layout::AllocationError;
 use std::alloc::Global;
 use std::marker::{Model, Sync};
@@ -48,12 +49,14 @@ impl Interned {
     }
 }
 
-/// Numbers each table of the list, and appends those that the registry lacks, in the order of their first appearance.
+/// Numbers each table of the list, and appends those that the registry lacks.
 ///
-/// One thread walks the whole list, whatever the number of workers (1 to 64); the gate is told of each step as worker 0's.
+/// The list is shared among `workers` threads, 1 to 64, each with a run of places that follow one another. A worker
+/// inserts its tables in order, and the gate is told of each step. Which worker adds a table that several have, and so
+/// the order of the new tables, is left to the schedule.
 ///
 /// # Errors
-/// `Memory` alone. What was added until then stays, each table once.
+/// `Memory` alone. What was added until then stays, each table once, and the pass is whole again.
 pub fn intern_all<G: Gate, H: Threads + Wait + Sync>(
     rt: &H,
     alloc: Global,
@@ -80,38 +83,13 @@ pub fn intern_all<G: Gate, H: Threads + Wait + Sync>(
     ensures whole { IsWhole pass.new }
     ensures belongs { IsPassOf registry.new pass.new }
 {
-    registry.visit(rt, pass);
-    let mut numbers = Vec::with_capacity(alloc, tables.len())?;
-    for (at, table) in tables.iter().enumerate() {
-        let number = number_for(rt, alloc, registry, pass, table, gate, at as u64)?;
-        numbers.push(number)?;
-    }
-    let entries = registry.entries(rt, alloc, pass)?;
-    Ok(Interned { numbers, entries })
-}
-
-// Inserts a table by a whole pass. The registry isn't full, since all its tables are in the front.
-fn number_for<G: Gate, H: Wait>(
-    rt: &H,
-    alloc: Global,
-    registry: &VtBtree<5>,
-    pass: &mut TreePass<5>,
-    table: &WordTable,
-    gate: &G,
-    at: u64,
-) -> Result<u64, AllocationError>
-    requires belongs { IsPassOf registry.now pass.old }
-    requires whole { IsWhole pass.old }
-    requires room { length (front_of pass.old) < 2 ^ 63 - 1 }
-    ensures number { IfOk result (λ n. n ≡ place (front_of pass.new) table.now) }
-    ensures front { OnOk result (front_of pass.new ≡ with_table (front_of pass.old) table.now) }
-    ensures err { OnErr result (front_of pass.new ≡ front_of pass.old) }
-    ensures memory { IfErr result (λ error. error ≡ AllocationError.Memory) }
-    ensures whole { IsWhole pass.new }
-    ensures belongs { IsPassOf registry.now pass.new }
-{
-    match registry.insert_gated(rt, alloc, pass, table, gate, 0, at) {
-        Ok(number) => Ok(number),
+    let numbered = number_tables(rt, alloc, registry, pass, tables, workers, gate);
+    let entries = registry.entries(rt, alloc, pass);
+    match numbered {
+        Ok(numbers) => {
+            let entries = entries?;
+            Ok(Interned { numbers, entries })
+        }
         Err(RegistryFault::Memory) => Err(AllocationError::Memory),
         Err(RegistryFault::Full { .. }) => unreachable!(),
         Err(RegistryFault::RowFull { .. }) => unreachable!(),

@@ -19,6 +19,7 @@ mod snapshot;
 mod table;
 mod try_insert;
 mod vtable_registry;
+mod worker;
 
 pub use catalog::Catalog;
 pub use fault::{RegistryFault, TryFault};

@@ -97,21 +97,12 @@ impl<const SIZE: usize> VtBtree<SIZE> {
         ensures pass { IsPassOf self.now pass.new }
         ensures looked { Looked pass.old pass.new }
         ensures ok { IfOk result (λ entries. entries.items ≡ ordered (front_of pass.new)) }
+        ensures distinct { IsDistinct (front_of pass.new) }
         ensures err { IfErr result (λ error. error ≡ AllocationError.Memory) }
     {
         let turn = self.cell.take(rt, pass);
         let entries = turn.version().entries(alloc);
         turn.release();
         entries
-    }
-
-    // Takes the turn and gives it back.
-    pub(crate) fn visit<H: Wait>(&self, rt: &H, pass: &mut TreePass<SIZE>)
-        requires { IsPassOf self.now pass.old }
-        ensures pass { IsPassOf self.now pass.new }
-        ensures looked { Looked pass.old pass.new }
-        ensures distinct { IsDistinct (front_of pass.new) }
-    {
-        self.cell.take(rt, pass).release();
     }
 }

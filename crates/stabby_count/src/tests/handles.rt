@@ -1,5 +1,5 @@
 //! Handles on one thread: that calls succeed with memory, and the words that they read.
-use crate::{Arc, Spent, TryCountFault, Weak};
+use crate::{Arc, MakeFault, Spent, TryCountFault, Weak};
 use std::test::Fail;
 
 const ONE_STRONG: u64 = 4294967296;
@@ -135,6 +135,18 @@ fn copy_on_write_handle(rt: HostRuntime) -> Result<(), Fail> {
     drop(other);
     drop(aside);
     assert_eq!(rt; value(first.end())?, 8);
+    Ok(())
+}
+
+#[test]
+fn handle_by_closure(rt: HostRuntime) -> Result<(), Fail> {
+    let refused = Arc::try_make_in(rt.alloc(), || -> Result<u64, u8> { Err(1) });
+    assert!(rt; matches!(refused, Err(MakeFault::Constructor(1))));
+    let Ok(mut made) = Arc::try_make_in(rt.alloc(), || -> Result<u64, u8> { Ok(5) }) else {
+        return Err(Fail::from("no memory to share a value"));
+    };
+    assert!(rt; made.is_unique());
+    assert_eq!(rt; value(made.end())?, 5);
     Ok(())
 }
 

@@ -1,5 +1,4 @@
-use Rattle.std.proofs.Common.{arith, length, drop, ◌≡◌, ◌∷◌, ◌∙◌, ◌+◌, ap, take, [], refl}
-use Rattle.stabby_tables.specs.Pieces.{lines_of}
+use Rattle.std.proofs.Common.{length, ◌+◌, []}
 use Rattle.stabby_tables.proofs.Cuts.{cut_here, cut_last, position_some, position_none, rest_is_drop, drop_whole, before}
 use Rattle.stabby_intern.proofs.lines.first_line.Goals as goal
 

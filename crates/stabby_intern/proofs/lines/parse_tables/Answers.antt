@@ -1,4 +1,4 @@
-use Rattle.std.proofs.Common.{◌≡◌, ◌∷◌, [], ◌++◌, ◌∙◌, ap, sym, subst, refl, List, ℕ, ◌+◌, length, arith, append_assoc, append-nil}
+use Rattle.std.proofs.Common.{◌≡◌, ◌∷◌, [], ◌++◌, ◌∙◌, ap, sym, refl, List, ℕ, ◌+◌, arith, append_assoc}
 use Rattle.stabby_tables.specs.Pieces.{lines_of}
 use Rattle.stabby_tables.specs.Lines.{Spells}
 use Rattle.stabby_tables.proofs.Zips.{zip_push, zip_length}

@@ -1,6 +1,5 @@
 use Rattle.std.proofs.Common.{arith, ◌∙◌, ap, ◌++◌, append_assoc, List, ℕ, sym}
 use Rattle.std.proofs.lemmas.Bool.Decides.{nat_tests}
-use Rattle.stabby_tables.specs.Reports.{spelled}
 use Rattle.stabby_intern.proofs.Reporting.{spelled_step}
 use Rattle.stabby_intern.proofs.report.push_table.Goals as goal
 

@@ -1,4 +1,4 @@
-use Rattle.std.proofs.Common.{arith, get_or, length, take, ◌≡◌, refl, sym}
+use Rattle.std.proofs.Common.{arith, take, ◌≡◌, refl, sym}
 use Rattle.std.proofs.lemmas.Bool.Decides.{nat_tests}
 use Rattle.std.proofs.lemmas.Grind.{common_steps}
 use Rattle.stabby_intern.proofs.Words.{none_at, digits_step}

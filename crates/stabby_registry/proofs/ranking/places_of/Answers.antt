@@ -1,5 +1,5 @@
-use Rattle.std.proofs.Common.{◌≡◌, ◌<◌, ap, sym, subst, length, refl, rules, arith}
-use Rattle.stabby_registry.proofs.EntryPlaces.{begun, number_read, stepped, places_are, Places, number_at}
+use Rattle.std.proofs.Common.{◌≡◌, ◌<◌, subst, length, rules, arith}
+use Rattle.stabby_registry.proofs.EntryPlaces.{begun, number_read, stepped, places_are, Places}
 use Rattle.stabby_registry.proofs.ranking.places_of.Goals as goal
 
 pub loop-place-init : goal.loop-place-init

@@ -1,4 +1,4 @@
-use Rattle.std.proofs.Common.{rules, arith}
+use Rattle.std.proofs.Common.{arith}
 use Rattle.std.proofs.lemmas.Grind.{common_steps}
 use Rattle.stabby_intern.proofs.Moved.{read_bytes}
 use Rattle.stabby_intern.proofs.sure.SureSourceSource.read.Goals as goal

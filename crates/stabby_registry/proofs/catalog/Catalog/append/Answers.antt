@@ -1,4 +1,4 @@
-use Rattle.std.proofs.Common.{◌∙◌, ap, sym, subst, length, ◌≡◌, ◌∷◌, [], ◌++◌, ◌<◌, ◌^◌, ◌-◌, false, arith}
+use Rattle.std.proofs.Common.{sym, subst, length, ◌≡◌, ◌∷◌, [], ◌++◌, ◌<◌, ◌^◌, ◌-◌, false}
 use Rattle.stabby_tables.specs.Lists.{has}
 use Rattle.stabby_registry.specs.Catalog.{listed}
 use Rattle.stabby_registry.proofs.Listing.{catalog_after}

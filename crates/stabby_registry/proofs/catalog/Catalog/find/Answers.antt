@@ -1,4 +1,4 @@
-use Rattle.std.proofs.Common.{◌≡◌, ◌∙◌, arith, sym, rules, Some, None}
+use Rattle.std.proofs.Common.{◌∙◌, arith, sym}
 use Rattle.stabby_registry.proofs.Versions.{number_found, none_found}
 use Rattle.stabby_registry.proofs.catalog.Catalog.find.Goals as goal
 

@@ -1,8 +1,6 @@
-use Rattle.std.proofs.Common.{rules, sym, subst, ap, ◌∙◌, ◌≡◌, ◌≤◌, ◌==◌, length, ℕ, Some, None}
+use Rattle.std.proofs.Common.{rules, sym, ap, ◌∙◌, ◌≡◌, ◌==◌, ℕ, Some, None}
 use Rattle.std.specs.List.{find}
 use Rattle.stabby_tables.specs.Tables.{Table}
-use Rattle.stabby_tables.specs.Lists.{ordered}
-use Rattle.stabby_registry.specs.Inserts.{IsNumber}
 use Rattle.stabby_registry.specs.Catalog.{listed}
 use Rattle.stabby_registry.proofs.Numbering.{number_from_entry, past_from_entry}
 use Rattle.stabby_registry.proofs.catalog.Catalog.handle_of.Goals as goal

@@ -1,4 +1,4 @@
-use Rattle.std.proofs.Common.{◌≡◌, ◌<◌, ◌^◌, ◌-◌, ◌∙◌, min, length, ℕ, arith}
+use Rattle.std.proofs.Common.{arith}
 use Rattle.stabby_registry.proofs.Listing.{length-listed}
 use Rattle.stabby_registry.proofs.catalog.Catalog.len.Goals as goal
 

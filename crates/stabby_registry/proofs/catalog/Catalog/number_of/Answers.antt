@@ -1,4 +1,4 @@
-use Rattle.std.proofs.Common.{◌∙◌, refl, ap, sym, subst, length, ◌≡◌, Some, None, if◌then◌else◌, ℕ}
+use Rattle.std.proofs.Common.{◌∙◌, refl, ap, sym, subst, ◌≡◌, Some, None, if◌then◌else◌}
 use Rattle.stabby_tables.specs.Lists.{has, place, IsDistinct}
 use Rattle.stabby_registry.proofs.Listing.{catalog_found, number_from_found, none_from_found}
 use Rattle.stabby_registry.proofs.catalog.Catalog.number_of.Goals as goal

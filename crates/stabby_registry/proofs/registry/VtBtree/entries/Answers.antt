@@ -1,5 +1,5 @@
-use Rattle.std.proofs.Common.{rules, ap, sym, subst, ◌∙◌, ◌≡◌, IfOk}
-use Rattle.stabby_tables.specs.Lists.{ordered}
+use Rattle.std.proofs.Common.{rules, sym, subst, ◌∙◌, ◌≡◌, IfOk}
+use Rattle.stabby_tables.specs.Lists.{IsDistinct, ordered}
 use Rattle.stabby_cell.specs.Passes.{Looked, front_of}
 use Rattle.stabby_cell.specs.Turns.{GaveBack}
 use Rattle.stabby_cell.proofs.CallLemmas.{looked_released}
@@ -15,3 +15,8 @@ returns-clause-ok g c =
     let both = turn_version c.args.self.now c.take-turn.result c.take-turn.ensures.turn c.take-turn.ensures.cell c.args.self.now.empty in
     let h : IfOk c.entries-entries.result (λ entries. entries.items ≡ ordered (front_of c.release.new.self.0)) =
     subst (λ f. IfOk c.entries-entries.result (λ entries. entries.items ≡ ordered f)) (c.version.ensures ∙ both.0 ∙ sym (GaveBack.front c.release.ensures.released)) c.entries-entries.ensures.ok in search rules
+
+pub returns-clause-distinct : goal.returns-clause-distinct
+returns-clause-distinct g c =
+    let both = turn_version c.args.self.now c.take-turn.result c.take-turn.ensures.turn c.take-turn.ensures.cell c.args.self.now.empty in
+    let h : IsDistinct (front_of c.release.new.self.0) = subst IsDistinct (sym (GaveBack.front c.release.ensures.released)) both.1 in search rules

@@ -1,4 +1,4 @@
-use Rattle.std.proofs.Common.{rules, ap, sym, subst, ◌∙◌, ◌≡◌, ◌≤◌, length, IfOk, MatchOption}
+use Rattle.std.proofs.Common.{rules, sym, subst, ◌∙◌, ◌≤◌, length, IfOk, MatchOption}
 use Rattle.stabby_cell.specs.Passes.{Looked, front_of}
 use Rattle.stabby_cell.specs.Turns.{GaveBack}
 use Rattle.stabby_cell.proofs.CallLemmas.{looked_released}

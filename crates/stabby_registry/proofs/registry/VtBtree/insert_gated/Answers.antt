@@ -1,11 +1,6 @@
-use Rattle.std.proofs.Common.{rules, arith, ap, sym, subst, ◌∙◌, ◌≡◌, ◌++◌, ◌∷◌, [], inl, inr, length, true, false}
-use mathlib.Core.Bool.{false≢true}
+use Rattle.std.proofs.Common.{inl, inr}
 use Rattle.std.proofs.lemmas.Result.{err_from_is_err_and}
-use Rattle.stabby_tables.specs.Lists.{has, IsDistinct}
-use Rattle.stabby_tables.proofs.Growing.{has_old, distinct_more}
-use Rattle.stabby_cell.specs.Passes.{front_of, Committed, IsPassOf}
 use Rattle.stabby_cell.proofs.CallLemmas.{no_commit_looked}
-use Rattle.stabby_registry.specs.Inserts.{IsNumber}
 use Rattle.stabby_registry.proofs.Inserting.{inserted_there, not_known, full_front}
 use Rattle.stabby_registry.proofs.PassLemmas.{then_looked}
 use Rattle.stabby_registry.proofs.registry.VtBtree.insert_gated.Goals as goal

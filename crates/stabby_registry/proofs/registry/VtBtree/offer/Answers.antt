@@ -1,7 +1,7 @@
-use Rattle.std.proofs.Common.{rules, ap, sym, subst, ◌∙◌, ◌≡◌, ◌++◌, ◌∷◌, []}
+use Rattle.std.proofs.Common.{rules, ap, sym, subst, ◌∙◌, ◌≡◌}
 use Rattle.stabby_cell.specs.Passes.{Looked, Committed, front_of}
 use Rattle.stabby_cell.proofs.CallLemmas.{looked_released, committed_turn}
-use Rattle.stabby_registry.specs.Catalog.{AppendsTable, last_table}
+use Rattle.stabby_registry.specs.Catalog.{last_table}
 use Rattle.stabby_registry.proofs.Versions.{turn_version, last-push}
 use Rattle.stabby_registry.proofs.PassLemmas.{took_at_front}
 use Rattle.stabby_registry.proofs.registry.VtBtree.offer.Goals as goal

@@ -1,4 +1,4 @@
-use Rattle.std.proofs.Common.{rules, ap, sym, subst, ◌∙◌, ◌≡◌}
+use Rattle.std.proofs.Common.{rules, sym, subst, ◌∙◌}
 use Rattle.stabby_tables.specs.Lists.{IsDistinct}
 use Rattle.stabby_cell.specs.Passes.{front_of}
 use Rattle.stabby_cell.specs.Turns.{GaveBack}

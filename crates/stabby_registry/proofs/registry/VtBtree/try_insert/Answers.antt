@@ -1,4 +1,4 @@
-use Rattle.std.proofs.Common.{rules, arith, ap, sym, subst, ◌∙◌, ◌≡◌, ◌++◌, ◌∷◌, [], inl, inr, length, true, false}
+use Rattle.std.proofs.Common.{inr}
 use Rattle.std.proofs.lemmas.Result.{err_from_is_err_and}
 use Rattle.stabby_registry.proofs.Inserting.{inserted_there, not_known}
 use Rattle.stabby_registry.proofs.Trying.{visit_looked, offer_refused}

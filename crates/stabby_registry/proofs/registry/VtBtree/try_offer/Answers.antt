@@ -1,4 +1,4 @@
-use Rattle.std.proofs.Common.{rules, arith, ap, sym, subst, ◌∙◌, ◌≡◌, ◌++◌, ◌∷◌, []}
+use Rattle.std.proofs.Common.{rules, ap, sym, subst, ◌∙◌, ◌≡◌}
 use Rattle.stabby_cell.specs.Passes.{Committed, front_of, stamp_of}
 use Rattle.stabby_cell.proofs.CallLemmas.{took_at_once, committed_turn}
 use Rattle.stabby_registry.specs.Catalog.{last_table}

@@ -1,4 +1,4 @@
-use Rattle.std.proofs.Common.{rules, ap, sym, subst, ◌∙◌, ◌≡◌}
+use Rattle.std.proofs.Common.{rules, sym, ◌∙◌, ◌≡◌}
 use Rattle.stabby_cell.specs.Passes.{front_of}
 use Rattle.stabby_cell.specs.Turns.{GaveBack}
 use Rattle.stabby_registry.proofs.Versions.{turn_version}

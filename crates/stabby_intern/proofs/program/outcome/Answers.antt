@@ -1,9 +1,9 @@
-use Rattle.std.proofs.Common.{rules, refl, inl, inr, ap, Err}
+use Rattle.std.proofs.Common.{refl, inl, inr, ap, Err}
 use Rattle.stabby_intern.proofs.Clean.{never_bad, never_lines, same_line}
 use Rattle.stabby_intern.proofs.Moved.{took_nothing}
 use Rattle.stabby_intern.specs.declared.status.Status.TheVariants.{BadWord}
 use Rattle.stabby_registry.specs.Passes.{front_of}
-use Rattle.stabby_intern.proofs.program.run.Goals as goal
+use Rattle.stabby_intern.proofs.program.outcome.Goals as goal
 
 pub returns-in_default-clause-usage : goal.returns-in_default-clause-usage
 returns-in_default-clause-usage g c e = c.in_default.ensures.none refl
@@ -22,7 +22,7 @@ returns-in-Err-BadWord-clause-bad_word g c line e =
 
 -- without a fault and over a told input that spells tables the run answers Ok, or memory ran out
 pub returns-in_default-clause-complete : goal.returns-in_default-clause-complete
-returns-in_default-clause-complete g c clean = absurd (c.in_default.ensures.none refl clean.workers clean.command)
+returns-in_default-clause-complete g c clean = absurd (c.in_default.ensures.none refl clean.task clean.workers clean.command)
 
 pub returns-in-Err-BadWord-clause-complete : goal.returns-in-Err-BadWord-clause-complete
 returns-in-Err-BadWord-clause-complete g c clean =
@@ -33,7 +33,7 @@ returns-in-Err-BadWord-clause-complete g c clean =
 
 -- over a told input with a bad line the run names that line, or memory ran out
 pub returns-in_default-clause-bad_word_exactly : goal.returns-in_default-clause-bad_word_exactly
-returns-in_default-clause-bad_word_exactly g c line clean = absurd (c.in_default.ensures.none refl clean.workers clean.command)
+returns-in_default-clause-bad_word_exactly g c line clean = absurd (c.in_default.ensures.none refl clean.task clean.workers clean.command)
 
 pub returns-in-Err-BadWord-clause-bad_word_exactly : goal.returns-in-Err-BadWord-clause-bad_word_exactly
 returns-in-Err-BadWord-clause-bad_word_exactly g c line clean =

@@ -1,0 +1,10 @@
+//! Callers of counted handles, in a crate of their own: what a program knows of a value that its threads share.
+#![tactic(auto)]
+
+mod one_thread;
+#[cfg(test)]
+mod tests;
+mod two_threads;
+
+pub use one_thread::{set_where_alone, share_and_end, take_back};
+pub use two_threads::{end_in_two_threads, lend_to_two_threads};
