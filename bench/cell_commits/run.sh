@@ -2,12 +2,9 @@
 # Prints nanoseconds a commit, uncontended, of a TurnCell beside Rust's Mutex, and the ratios.
 # Run it anywhere: bench/cell_commits/run.sh [COUNT]. It needs rt, rustc and bash; it builds the proved program first.
 set -eu
-top="$(cd "$(dirname "$0")/../.." && pwd)"
+. "$(dirname "$0")/../build.sh"
 count="${1:-20000000}"
-build="$(mktemp -d)"
-trap 'rm -r "$build"' EXIT
-(cd "$top/crates/cell_commits" && rt run </dev/null >/dev/null 2>"$build/log") || { cat "$build/log"; exit 1; }
-rustc -C opt-level=3 -C target-cpu=x86-64-v2 -o "$build/commits" "$top/bench/cell_commits/commits.rs"
+build_both cell_commits cell_commits/commits.rs
 
 # nanoseconds a commit: the best of five runs of COUNT, less one of none
 nanoseconds() {
@@ -21,9 +18,9 @@ nanoseconds() {
     awk -v t=$((best - none)) -v n="$count" 'BEGIN { printf "%.2f", t / n }'
 }
 
-cell=$(nanoseconds "$top/crates/cell_commits/out/cell_commits")
-shared=$(nanoseconds "$build/commits" arc)
-number=$(nanoseconds "$build/commits" number)
+cell=$(nanoseconds "$ours")
+shared=$(nanoseconds "$theirs" arc)
+number=$(nanoseconds "$theirs" number)
 echo "TurnCell, take and commit    $cell ns"
 echo "Mutex<Arc<u64>>, a new Arc   $shared ns"
 echo "Mutex<u64>                   $number ns"

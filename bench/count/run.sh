@@ -2,13 +2,9 @@
 # Prints nanoseconds a round of a thread, of a counted handle beside Rust's Arc, on 1 and 4 threads, and the ratios.
 # Run it anywhere: bench/count/run.sh [ROUNDS]. It needs rt, rustc and bash; it builds the proved program first.
 set -eu
-top="$(cd "$(dirname "$0")/../.." && pwd)"
+. "$(dirname "$0")/../build.sh"
 rounds="${1:-4000000}"
-build="$(mktemp -d)"
-trap 'rm -r "$build"' EXIT
-(cd "$top/crates/count_rounds" && rt run </dev/null >/dev/null 2>"$build/log") || { cat "$build/log"; exit 1; }
-rustc -C opt-level=3 -C target-cpu=x86-64-v2 -o "$build/rounds" "$top/bench/count/rounds.rs"
-ours="$top/crates/count_rounds/out/count_rounds"
+build_both count_rounds count/rounds.rs
 
 # nanoseconds of one run
 spent() {
@@ -23,7 +19,7 @@ compare() {
     local -A best=([ours]=0 [std]=0) none=([ours]=0 [std]=0)
     for run in 1 2 3 4 5; do
         for program in ours std; do
-            local path=$ours; [ $program = ours ] || path=$build/rounds
+            local path=$ours; [ $program = ours ] || path=$theirs
             time=$(spent "$work" "$threads" 0 "$path")
             [ $run != 1 ] && [ "$time" -ge "${none[$program]}" ] || none[$program]=$time
             time=$(spent "$work" "$threads" "$count" "$path")
