@@ -1,8 +1,8 @@
 -- What one worker's pass knows of the tables that it numbered.
-use Rattle.std.proofs.Common.{◌≡◌, ℕ, zero, suc, ◌<◌, List, [], ◌∷◌, ◌++◌, length, take, map, refl, sym, ◌∙◌, ap, subst, arith, true, false, if◌then◌else◌, append-nil, length-append, inl, inr, ◌⊎◌, Bool, Some, None}
+use Rattle.std.proofs.Common.{◌≡◌, ℕ, zero, suc, ◌+◌, ◌<◌, List, [], ◌∷◌, ◌++◌, length, get_or, take, map, refl, sym, ◌∙◌, ap, subst, arith, true, false, if◌then◌else◌, append-nil, length-append, inl, inr, ◌⊎◌, Bool, Some, None}
 use mathlib.Core.List.{IsPrefix}
 use Rattle.std.specs.List.{AllByRecursion, Contains, slice_index}
-use Rattle.std.proofs.lemmas.List.{get_or_append_left, get_or_push}
+use Rattle.std.proofs.lemmas.List.{get_or_append_left, get_or_push, take_more}
 use Rattle.std.proofs.lemmas.List.Elements.{All-from_recursion, Contains-push_cases}
 use Rattle.std.proofs.lemmas.Option.{same_Some}
 use Rattle.stabby_cell.specs.declared.chronicle.Chronicle.{Ghosts}
@@ -96,6 +96,9 @@ first_at_end numbers n smaller = (
 no_member : {P : Type 0} (v : ℕ) → Contains [] v → P
 no_member v (k, within, at) = absurd (omega (arith, within))
 
+take_next : (ts : List Table) (i : ℕ) (t : Table) → i < length ts → t ≡ get_or ts i t → take (i + 1) ts ≡ take i ts ++ t ∷ []
+take_next ts i t within read = take_more ts i t within ∙ ap (λ u. take i ts ++ u ∷ []) (sym read)
+
 module _ {g : Ghosts (List Table) Table} where
   same_commits : (p q : Pass (List Table) Table g) → AddedNoCommit p q → commits_of q ≡ commits_of p
   same_commits p q a = ViewAdvances.commits (AddedNoCommit.advances a) ∙ ap (λ l. commits_of p ++ l) (AddedNoCommit.no_commit a) ∙ append-nil (commits_of p)
@@ -157,6 +160,15 @@ module _ {g : Ghosts (List Table) Table} where
     first = λ v inside. first_stays numbers (n ∷ []) v (HasWorked.first so v inside);
     few = omega (arith, HasWorked.few so, length-append ts (t ∷ []));
   }
+
+  -- the next table of a list
+  pub next_more : (p q : Pass (List Table) Table g) (ts : List Table) (i : ℕ) (numbers : List ℕ) (t : Table) (n : ℕ) → i < length ts → t ≡ get_or ts i t → HasWorked p (take i ts) numbers → InsertsTable p q t n → IsNumber (front_of q) t n → IsDistinct (front_of q)
+      → HasWorked q (take (i + 1) ts) (numbers ++ n ∷ [])
+  next_more p q ts i numbers t n within read so inserts number once = rw (take_next ts i t within read) (worked_more p q (take i ts) numbers t n so inserts number once)
+
+  pub next_known : (p : Pass (List Table) Table g) (ts : List Table) (i : ℕ) (numbers : List ℕ) (t : Table) (n : ℕ) → i < length ts → t ≡ get_or ts i t → HasWorked p (take i ts) numbers → (has (front_of p) t ≡ true) × (n ≡ place (front_of p) t)
+      → HasWorked p (take (i + 1) ts) (numbers ++ n ∷ [])
+  next_known p ts i numbers t n within read so known = rw (take_next ts i t within read) (worked_known p (take i ts) numbers t n so known)
 
   -- a refused read commits nothing
   pub read_refused : (p q : Pass (List Table) Table g) (fault : CellFault) → IsReadFault p q fault → AddedNoCommit p q

@@ -1,11 +1,9 @@
-use Rattle.std.proofs.Common.{rules, sym, refl, ap, ◌≡◌, ◌<◌, ◌+◌, ◌++◌, ◌∷◌, [], ◌∙◌, take, length}
-use Rattle.std.proofs.lemmas.List.{take_more}
+use Rattle.std.proofs.Common.{rules, refl, ◌≡◌, ◌<◌, ◌+◌, ◌++◌, ◌∷◌, [], ◌∙◌, take, length}
 use Rattle.std.proofs.lemmas.Result.{err_from_is_err_and}
 use Rattle.stabby_cell.proofs.RecordLemmas.{prefix_same, prefix_trans}
 use Rattle.stabby_cell.proofs.CallLemmas.{no_commit_looked}
 use Rattle.stabby_registry.specs.Passes.{front_of, weight_of}
-use Rattle.stabby_registry.specs.Work.{HasWorked}
-use Rattle.stabby_registry.proofs.Working.{known_behind, worked_none, worked_stays, worked_known, worked_more, read_refused, same_weight, stopped}
+use Rattle.stabby_registry.proofs.Working.{known_behind, worked_none, worked_stays, next_known, next_more, read_refused, same_weight, stopped}
 use Rattle.stabby_registry.proofs.PassLemmas.{front_grows}
 use Rattle.stabby_registry.proofs.worker.number_share.Goals as goal
 
@@ -23,13 +21,11 @@ pub loop-at-preserved-in-Some : goal.loop-at-preserved-in-Some
 loop-at-preserved-in-Some g c =
     let so = c.loop-at.invariant in
     let within : c.loop-at.at < length c.args.tables.now = search rules in
-    let part : take (c.loop-at.at + 1) c.args.tables.now ≡ take c.loop-at.at c.args.tables.now ++ c.index-tables-at.result ∷ [] =
-    take_more c.args.tables.now c.loop-at.at c.index-tables-at.result within ∙ ap (λ u. take c.loop-at.at c.args.tables.now ++ u ∷ []) (sym c.index-tables-at.is) in
     let known = known_behind c.loop-at.known (front_of c.loop-at.pass) c.index-tables-at.result c.in-Some.number so.behind c.in-Some.ensures.number in
     record {
       own = so.own;
       weight = so.weight;
-      worked = rw (part, c.push_reserved.ensures.items) (worked_known c.loop-at.pass (take c.loop-at.at c.args.tables.now) c.loop-at.numbers.items c.index-tables-at.result c.in-Some.number so.worked known);
+      worked = rw c.push_reserved.ensures.items (next_known c.loop-at.pass c.args.tables.now c.loop-at.at c.loop-at.numbers.items c.index-tables-at.result c.in-Some.number within c.index-tables-at.is so.worked known);
       behind = so.behind;
       room = c.push_reserved.ensures.capacity ∙ so.room;
     }
@@ -45,14 +41,12 @@ pub loop-at-preserved-then-missed-len : goal.loop-at-preserved-then-missed-len
 loop-at-preserved-then-missed-len g c =
     let so = c.loop-at.invariant in
     let within : c.loop-at.at < length c.args.tables.now = search rules in
-    let part : take (c.loop-at.at + 1) c.args.tables.now ≡ take c.loop-at.at c.args.tables.now ++ c.index-tables-at.result ∷ [] =
-    take_more c.args.tables.now c.loop-at.at c.index-tables-at.result within ∙ ap (λ u. take c.loop-at.at c.args.tables.now ++ u ∷ []) (sym c.index-tables-at.is) in
     let same : weight_of c.insert_gated.new.pass ≡ weight_of c.args.pass.now = search rules in
     record {
       own = c.insert_gated.ensures.pass;
       weight = same;
-      worked = rw (part, c.push_reserved-in-loop-at.ensures.items) (worked_more c.loop-at.pass c.insert_gated.new.pass (take c.loop-at.at c.args.tables.now) c.loop-at.numbers.items c.index-tables-at.result c.in_ok-number.number
-          so.worked c.in_ok-number.ensures.inserts c.in_ok-number.ensures.number c.in_ok-number.ensures.distinct);
+      worked = rw c.push_reserved-in-loop-at.ensures.items (next_more c.loop-at.pass c.insert_gated.new.pass c.args.tables.now c.loop-at.at c.loop-at.numbers.items c.index-tables-at.result c.in_ok-number.number within
+          c.index-tables-at.is so.worked c.in_ok-number.ensures.inserts c.in_ok-number.ensures.number c.in_ok-number.ensures.distinct);
       behind = prefix_trans c.loop-at.known (front_of c.loop-at.pass) (front_of c.insert_gated.new.pass) so.behind c.insert_gated.ensures.front;
       room = c.push_reserved-in-loop-at.ensures.capacity ∙ so.room;
     }
@@ -62,11 +56,8 @@ pub loop-at-preserved-in_default-try_snapshot : goal.loop-at-preserved-in_defaul
 loop-at-preserved-in_default-try_snapshot g c =
     let so = c.loop-at.invariant in
     let within : c.loop-at.at < length c.args.tables.now = search rules in
-    let part : take (c.loop-at.at + 1) c.args.tables.now ≡ take c.loop-at.at c.args.tables.now ++ c.index-tables-at.result ∷ [] =
-    take_more c.args.tables.now c.loop-at.at c.index-tables-at.result within ∙ ap (λ u. take c.loop-at.at c.args.tables.now ++ u ∷ []) (sym c.index-tables-at.is) in
-    let here : HasWorked c.insert_gated.new.pass (take (c.loop-at.at + 1) c.args.tables.now) (c.loop-at.numbers.items ++ c.in_ok-number.number ∷ []) =
-    rw part (worked_more c.loop-at.pass c.insert_gated.new.pass (take c.loop-at.at c.args.tables.now) c.loop-at.numbers.items c.index-tables-at.result c.in_ok-number.number so.worked c.in_ok-number.ensures.inserts
-    c.in_ok-number.ensures.number c.in_ok-number.ensures.distinct) in
+    let here = next_more c.loop-at.pass c.insert_gated.new.pass c.args.tables.now c.loop-at.at c.loop-at.numbers.items c.index-tables-at.result c.in_ok-number.number within c.index-tables-at.is so.worked
+    c.in_ok-number.ensures.inserts c.in_ok-number.ensures.number c.in_ok-number.ensures.distinct in
     let same : weight_of c.insert_gated.new.pass ≡ weight_of c.args.pass.now = search rules in
     let none = read_refused c.insert_gated.new.pass c.try_snapshot.new.pass c.in_default-try_snapshot.field-0 c.in_default-try_snapshot.ensures.err in
     record {
@@ -84,11 +75,8 @@ pub loop-at-preserved : goal.loop-at-preserved
 loop-at-preserved g c =
     let so = c.loop-at.invariant in
     let within : c.loop-at.at < length c.args.tables.now = search rules in
-    let part : take (c.loop-at.at + 1) c.args.tables.now ≡ take c.loop-at.at c.args.tables.now ++ c.index-tables-at.result ∷ [] =
-    take_more c.args.tables.now c.loop-at.at c.index-tables-at.result within ∙ ap (λ u. take c.loop-at.at c.args.tables.now ++ u ∷ []) (sym c.index-tables-at.is) in
-    let here : HasWorked c.insert_gated.new.pass (take (c.loop-at.at + 1) c.args.tables.now) (c.loop-at.numbers.items ++ c.in_ok-number.number ∷ []) =
-    rw part (worked_more c.loop-at.pass c.insert_gated.new.pass (take c.loop-at.at c.args.tables.now) c.loop-at.numbers.items c.index-tables-at.result c.in_ok-number.number so.worked c.in_ok-number.ensures.inserts
-    c.in_ok-number.ensures.number c.in_ok-number.ensures.distinct) in
+    let here = next_more c.loop-at.pass c.insert_gated.new.pass c.args.tables.now c.loop-at.at c.loop-at.numbers.items c.index-tables-at.result c.in_ok-number.number within c.index-tables-at.is so.worked
+    c.in_ok-number.ensures.inserts c.in_ok-number.ensures.number c.in_ok-number.ensures.distinct in
     let same : weight_of c.insert_gated.new.pass ≡ weight_of c.args.pass.now = search rules in
     let none = no_commit_looked c.insert_gated.new.pass c.try_snapshot.new.pass c.in-Ok-try_snapshot.ensures.looked in
     record {
