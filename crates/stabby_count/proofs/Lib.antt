@@ -4,3 +4,5 @@ pub mod Totals
 pub mod Machines
 pub mod Rows
 pub mod Kept
+pub mod Lenders
+pub mod SliceLoans

@@ -9,3 +9,5 @@ pub mod Records
 pub mod Shared
 pub mod SharedSlices
 pub mod SharedTexts
+pub mod BoxedLists
+pub mod SliceLoans

@@ -1,7 +1,7 @@
 -- What a contract says of the handles of shared slices. Each is a handle of a shared list with a capacity.
-use Rattle.std.specs.Prelude.{ℕ, List}
-use Rattle.stabby_vec.specs.Sequence.{Sequence}
-use Rattle.stabby_count.specs.Shared.{arc_value, arc_block, arc_record, IsSole, IsShared, weak_value, weak_block, weak_record}
+use Rattle.std.specs.Prelude.{ℕ, List, Bool}
+use Rattle.stabby_vec.specs.Sequence.{Sequence, with_items}
+use Rattle.stabby_count.specs.Shared.{arc_value, arc_block, arc_record, IsSole, IsShared, IsLent, weak_value, weak_block, weak_record}
 use Rattle.stabby_count.specs.declared.view.Note.{Note}
 use Rattle.stabby_count.specs.declared.slice.ArcSlice.{ArcSlice}
 use Rattle.stabby_count.specs.declared.slice.WeakSlice.{WeakSlice}
@@ -25,6 +25,10 @@ module _ {X : Type 0} where
 
   abbrev pub IsSharedSlice : ArcSlice X → Type 0
   IsSharedSlice a = IsShared a.shared
+
+  -- one read told whether a handle lends its items: one that did has the items xs, which were written, in the capacity that it had, and one that did not has its own
+  abbrev pub IsLentSlice : ArcSlice X → ArcSlice X → List X → Bool → Type 0
+  IsLentSlice before after xs lent = IsLent before.shared after.shared (with_items (slice_value before) xs) lent
 
   abbrev pub weak_slice_value : WeakSlice X → Sequence X
   weak_slice_value w = weak_value w.shared

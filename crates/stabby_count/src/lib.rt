@@ -6,6 +6,7 @@ mod fault;
 pub mod laws;
 mod machine;
 mod slice;
+mod slice_loan;
 mod slice_traits;
 mod spent;
 mod strong;

@@ -34,6 +34,7 @@ fn shared_slice(rt: HostRuntime) -> Result<(), Fail> {
         return Err(Fail::from("a clone was refused"));
     };
     assert_eq!(rt; first.strong_count(), 2);
+    assert!(rt; first.as_slice_mut().is_none());
     let first = not_unwrapped(first.try_into_vec())?;
     assert_eq!(rt; second.as_slice(), [1, 255].as_slice());
     drop(second);
@@ -66,6 +67,30 @@ fn weak_slice_outlives(rt: HostRuntime) -> Result<(), Fail> {
     drop(first);
     assert!(rt; matches!(aside.upgrade(&rt), Ok(None)));
     assert_eq!(rt; aside.end().word(), 1);
+    Ok(())
+}
+
+#[test]
+fn sole_slice_changes_in_place(rt: HostRuntime) -> Result<(), Fail> {
+    let mut first = listed(rt.alloc())?;
+    let Some(items) = first.as_slice_mut() else {
+        return Err(Fail::from("it is the only handle"));
+    };
+    assert_eq!(rt; &*items, [1, 255].as_slice());
+    items[0] = 7;
+    assert_eq!(rt; first.as_slice(), [7, 255].as_slice());
+    let Ok(mut second) = first.clone(&rt) else {
+        return Err(Fail::from("a clone was refused"));
+    };
+    assert_eq!(rt; second.as_slice(), [7, 255].as_slice());
+    assert!(rt; second.as_slice_mut().is_none());
+    drop(first);
+    assert!(rt; second.as_slice_mut().is_some());
+    let Ok(list) = second.try_into_vec() else {
+        return Err(Fail::from("it is the only handle"));
+    };
+    assert_eq!(rt; list.capacity(), 8);
+    assert_eq!(rt; list.as_slice(), [7, 255].as_slice());
     Ok(())
 }
 
