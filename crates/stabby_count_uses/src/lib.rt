@@ -2,9 +2,10 @@
 #![tactic(auto)]
 
 mod one_thread;
+mod single;
 #[cfg(test)]
 mod tests;
 mod two_threads;
 
 pub use one_thread::{set_where_alone, share_and_end, take_back};
-pub use two_threads::{end_in_two_threads, lend_to_two_threads};
+pub use two_threads::{Lent, end_in_two_threads, lend_to_two_threads};

@@ -1,7 +1,9 @@
 //! The callers, run.
 use crate::{end_in_two_threads, lend_to_two_threads, set_where_alone, share_and_end};
-use stabby_count::Arc;
+use stabby_count::{Arc, Spent};
 use std::test::Fail;
+
+const ONE_STRONG: u64 = 4294967296;
 
 #[test]
 fn one_handle_gives_its_value(rt: HostRuntime) -> Result<(), Fail> {
@@ -26,27 +28,39 @@ fn a_number_changes_where_alone(rt: HostRuntime) -> Result<(), Fail> {
     Ok(())
 }
 
+// Whether an end gave the value, or read two strong handles.
+fn gave_or_read_two(end: Result<u64, Spent>, value: u64) -> bool {
+    match end {
+        Ok(given) => given == value,
+        Err(spent) => spent.word() == 2 * ONE_STRONG + 1,
+    }
+}
+
 #[test]
 fn one_of_two_ends_gives_the_value(rt: HostRuntime) -> Result<(), Fail> {
     for value in 0..200u64 {
-        let Ok(handle) = Arc::try_new_in(rt.alloc(), value) else {
-            return Err("no memory")?;
-        };
-        let Ok((first, second)) = end_in_two_threads(&rt, handle) else {
+        let Ok((first, second)) = end_in_two_threads(&rt, rt.alloc(), value) else {
             return Err("no memory")?;
         };
         assert!(rt; first.is_ok() != second.is_ok());
+        assert!(rt; gave_or_read_two(first, value));
+        assert!(rt; gave_or_read_two(second, value));
     }
     Ok(())
 }
 
+// The first of two ends reads three strong handles, and the other reads two.
 #[test]
 fn value_comes_back_from_two_threads(rt: HostRuntime) -> Result<(), Fail> {
     for value in 0..200u64 {
-        let Ok(back) = lend_to_two_threads(&rt, rt.alloc(), value) else {
+        let Ok(lent) = lend_to_two_threads(&rt, rt.alloc(), value) else {
             return Err("no memory")?;
         };
-        assert!(rt; back == value);
+        assert!(rt; lent.value == value);
+        let first = lent.first.word();
+        let second = lent.second.word();
+        assert!(rt; first.max(second) == 3 * ONE_STRONG + 1);
+        assert!(rt; first.min(second) == 2 * ONE_STRONG + 1);
     }
     Ok(())
 }
