@@ -23,22 +23,24 @@ impl<const SIZE: usize> VtBtree<SIZE> {
     /// Takes the turn if it is free, by one step.
     ///
     /// # Errors
-    /// `Busy` where the step found the turn held by another pass. A whole pass never gets it.
+    /// `Busy` where the step found the turn held by another pass: `lost` rose by one and the front stays. A whole pass
+    /// never gets it.
     pub fn try_hold<'a>(&'a self, pass: &'a mut TreePass<SIZE>) -> Result<Held<'a, SIZE>, Busy>
         requires { IsPassOf self.now pass.old }
+        ensures* busy { sem 𝓛 (RestsIfErr (pass_row (catalog_row SIZE.row) table_row ⟦<Catalog<SIZE> as Chronicle>⟧) pass.entry lender_of result (λ p. IsPassOf self.now p × MissedTurn pass.old p)) }
         ensures not_whole { OnErr result (weight_of pass.old < 2 ^ 32) }
         ensures cell { IfOk result (λ held. cell_of held ≡ self.now.cell) }
         ensures same_pass { IfOk result (λ held. lender_of held ≡ pass.entry.ghost_name) }
         ensures turn { IfOk result (IsTurn AppendsTable) }
         ensures took { IfOk result (λ held. Advances pass.old (pass_of held) (noted Take (stamp_of (pass_of held)) ∷ [])) }
     {
-        self.cell.try_take(pass)
+        try_hold(pass, self)
     }
 }
 
 /// Takes the turn of a registry if it is free, by one step.
 ///
-/// It is `VtBtree::try_hold` with the pass first, which says besides what the pass is after `Busy`.
+/// It is `VtBtree::try_hold` with the pass first, for callers whose proof goes on after `Busy`.
 ///
 /// # Errors
 /// `Busy` where the step found the turn held by another pass: `lost` rose by one and the front stays. A whole pass never
