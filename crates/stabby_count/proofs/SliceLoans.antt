@@ -2,7 +2,7 @@
 use Rattle.std.proofs.Common.{arith, ◌≡◌, ◌≤◌, ◌∙◌, Bool, List, true, false, refl, ap, subst, is_some}
 use Rattle.std.proofs.Props.{props}
 use Rattle.std.specs.Prelude.{Option, Some, None, IfSome, IsTrue}
-use Rattle.std.specs.declared.boxed.Box.{Box}
+use Rattle.stabby_count_word.specs.declared.raw_box.RawBox.{RawBox}
 use Rattle.stabby_vec.specs.Sequence.{Sequence, with_items}
 use Rattle.stabby_count.specs.Held.{held_or, kind_by, sole_by}
 use Rattle.stabby_count.specs.BoxedLists.{with_held_items}
@@ -13,7 +13,7 @@ use Rattle.stabby_count.specs.declared.slice.ArcSlice.{ArcSlice}
 use Rattle.stabby_count.specs.declared.strong.Arc.{Arc}
 
 module _ {X : Type 0} where
-  pub held_value_items : {Z : Type 0} (o : Option (Box (Sequence X) Z)) (x : Sequence X) (items : List X) → is_some o ≡ true → IfSome o (λ b. items ≡ b.value.items) → items ≡ (held_or o (λ b. b.value) x).items
+  pub held_value_items : {Z : Type 0} (o : Option (RawBox (Sequence X) Z)) (x : Sequence X) (items : List X) → is_some o ≡ true → IfSome o (λ b. items ≡ b.value.items) → items ≡ (held_or o (λ b. b.value) x).items
   held_value_items None x items e h = Prim.grind arith
   held_value_items (Some b) x items e h = h
 
@@ -34,7 +34,7 @@ module _ {X : Type 0} where
     sole : IsProp (sole_by (is_some (with_held_items a.own w)) ≤ a.seat.view.sole)
     sole = Prim.hlevel props
 
-  own_value : {Z : Type 0} (o : Option (Box (Sequence X) Z)) (x : Sequence X) (w : List X) → is_some o ≡ true → held_or (with_held_items o w) (λ b. b.value) x ≡ with_items (held_or o (λ b. b.value) x) w
+  own_value : {Z : Type 0} (o : Option (RawBox (Sequence X) Z)) (x : Sequence X) (w : List X) → is_some o ≡ true → held_or (with_held_items o w) (λ b. b.value) x ≡ with_items (held_or o (λ b. b.value) x) w
   own_value None x w e = Prim.grind arith
   own_value (Some b) x w e = refl
 

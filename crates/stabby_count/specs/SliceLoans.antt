@@ -1,6 +1,6 @@
 -- What a handle that has its list in a box ends as, where a `&mut` to the items is returned.
 use Rattle.std.specs.Prelude.{◌≡◌, ◌≤◌, List, Option, Some, None, is_some}
-use Rattle.std.specs.declared.boxed.Box.{Box}
+use Rattle.stabby_count_word.specs.declared.raw_box.RawBox.{RawBox}
 use Rattle.std.proofs.Common.{refl, sym, ap, subst, ◌∙◌}
 use Rattle.stabby_vec.specs.Sequence.{Sequence}
 use Rattle.stabby_count.specs.BoxedLists.{with_held_items}
@@ -8,7 +8,7 @@ use Rattle.stabby_count.specs.Held.{kind_by, sole_by}
 use Rattle.stabby_count.specs.declared.slice.ArcSlice.{ArcSlice}
 use Rattle.stabby_count.specs.declared.strong.Arc.{Arc}
 
-pub still_held : {X Z : Type 0} (own : Option (Box (Sequence X) Z)) (items : List X) → is_some (with_held_items own items) ≡ is_some own
+pub still_held : {X Z : Type 0} (own : Option (RawBox (Sequence X) Z)) (items : List X) → is_some (with_held_items own items) ≡ is_some own
 still_held None items = refl
 still_held (Some b) items = refl
 

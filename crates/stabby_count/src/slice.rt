@@ -77,7 +77,7 @@ impl<T> ArcSlice<T> {
     }
 }
 
-impl<T: Drop> ArcSlice<T> {
+impl<T> ArcSlice<T> {
     ghost use Rattle.std.specs.Prelude.{◌≡◌, ◌≢◌, ℕ, [], IfOk, IfErr, OnOk, OnErr, IsOk, MatchResult};
     ghost use Rattle.stabby_count.specs.SharedSlices.{slice_value, slice_items, slice_block, slice_record, IsSoleSlice, IsSharedSlice, weak_slice_value, weak_slice_block, weak_slice_record};
     ghost use Rattle.stabby_count.specs.Records.{AddsLook, RaisesAfterLooks, Refuses, strong_of, weak_of, alone};

@@ -5,19 +5,20 @@ ghost use Rattle.stabby_count.specs.BoxedLists.{box_lends_items, held_lends_item
 
 use crate::slice::ArcSlice;
 use crate::strong::Arc;
+use stabby_count_word::RawBox;
 use stabby_vec::Vec;
 use std::alloc::{Allocator, Global};
 
 // The items of a boxed list.
-fn boxed_items<T, A: Allocator, B: Allocator>(boxed: &mut Box<Vec<T, A>, B>) -> &mut [T]
+fn boxed_items<T, A: Allocator, B: Allocator>(boxed: &mut RawBox<Vec<T, A>, B>) -> &mut [T]
     ensures* writes_back { sem 𝓛 (box_lends_items T.row A.row B.row A.Allocator B.Allocator boxed.entry result) }
     ensures value { result.now ≡ boxed.old.value.items }
 {
-    boxed.as_slice_mut()
+    boxed.get_mut().as_slice_mut()
 }
 
 // The items of a boxed list that is there.
-fn held_items<T, A: Allocator, B: Allocator>(held: &mut Option<Box<Vec<T, A>, B>>) -> &mut [T]
+fn held_items<T, A: Allocator, B: Allocator>(held: &mut Option<RawBox<Vec<T, A>, B>>) -> &mut [T]
     requires { is_some held.old ≡ true }
     ensures* writes_back { sem 𝓛 (held_lends_items T.row A.row B.row A.Allocator B.Allocator held.entry result) }
     ensures value { IfSome held.old (λ boxed. result.now ≡ boxed.value.items) }

@@ -1,5 +1,5 @@
 //! Strong handles.
-ghost use Rattle.std.specs.Prelude.{◌≡◌, ◌+◌, ◌≤◌, is_some};
+ghost use Rattle.std.specs.Prelude.{◌≡◌, ◌+◌, ◌≤◌, None, is_some};
 ghost use Rattle.stabby_count.specs.Held.{kind_by, sole_by};
 ghost use Rattle.stabby_count_word.specs.Kinds.{last};
 
@@ -11,7 +11,7 @@ use crate::word_steps::{
     Clone as CloneStep, Downgrade, EndSole, EndStrong, GiveStrong, GiveWeak, Look, LookSole, Rest,
     SharedCounts, Take,
 };
-use stabby_count_word::{CountWord, Permission, Seat};
+use stabby_count_word::{CountWord, Permission, RawBox, Seat};
 use stabby_layout::AllocationError;
 use stabby_text::MakeFault;
 use std::alloc::{AllocError, AllocFailed, Global};
@@ -34,7 +34,7 @@ pub struct Arc<T> {
     pub(crate) seat: Seat<View>,
     pub(crate) permission: Permission<T>,
     // The value's box, while the handle is sole and has lent it.
-    pub(crate) own: Option<Box<T>>,
+    pub(crate) own: Option<RawBox<T, Global>>,
     pub(crate) alloc: Global,
     ghost one_word: { (seat.views ≡ block.value.views) × (permission.word_names ≡ block.value) },
     ghost one_share: { (permission.kind ≡ kind_by (is_some own)) × (seat.view.strong ≡ 1) × (seat.view.weak ≡ 0) },
@@ -50,7 +50,7 @@ impl<T> Arc<T> {
         ensures { result.now ≡ arc_value self.now }
     {
         match &self.own {
-            Some(boxed) => &**boxed,
+            Some(boxed) => boxed.get(),
             None => self.permission.get(),
         }
     }
@@ -139,7 +139,7 @@ impl<T> Arc<T> {
         ensures value { MatchOption result (is_some self.old.own ≡ false) (λ r. (is_some self.old.own ≡ true) × (r.now ≡ arc_value self.old)) }
     {
         match &mut self.own {
-            Some(boxed) => Some(&mut **boxed),
+            Some(boxed) => Some(boxed.get_mut()),
             None => None,
         }
     }
@@ -157,7 +157,7 @@ impl<T> Arc<T> {
     }
 }
 
-impl<T: Drop> Arc<T> {
+impl<T> Arc<T> {
     ghost use Rattle.std.specs.Prelude.{◌≡◌, ◌<◌, ◌+◌, ℕ, IfOk, IfErr, OnOk, OnErr, MatchResult, None};
     ghost use Rattle.stabby_count.specs.Shared.{arc_value, arc_block, arc_record, weak_value, weak_block, weak_record, IsSole, IsShared};
     ghost use Rattle.stabby_count.specs.Records.{AddsStep, RefusesTry, strong_of, weak_of};
@@ -257,7 +257,7 @@ impl<T: Drop> Arc<T> {
     }
 }
 
-impl<T: Drop> Arc<T> {
+impl<T> Arc<T> {
     ghost use Rattle.std.specs.Prelude.{◌≡◌, IfOk, IfErr, OnOk, OnErr};
     ghost use Rattle.stabby_count.specs.Shared.{arc_value, arc_block, arc_record, weak_value, weak_block, weak_record, IsSole, IsShared};
     ghost use Rattle.stabby_count.specs.Records.{RaisesAfterLooks, Refuses, strong_of, weak_of};
@@ -318,6 +318,16 @@ impl<T: Drop> Arc<T> {
     }
 }
 
+// What is left of a place for a box, where there is none.
+fn no_box<T>(own: Option<RawBox<T, Global>>)
+    requires { own ≡ None }
+{
+    match own {
+        None => {}
+        Some(_) => unreachable!(),
+    }
+}
+
 // Takes the value that is due to the seat.
 fn take_value<T>(
     word: &CountWord<T, View, SharedCounts>,
@@ -332,10 +342,10 @@ fn take_value<T>(
     let mut unit = permission.split();
     word.end_weak::<Take>(seat, &mut unit);
     unit.done();
-    Box::into_inner(permission.into_box(alloc))
+    permission.into_box(alloc).into_inner()
 }
 
-impl<T: Drop> Arc<T> {
+impl<T> Arc<T> {
     ghost use Rattle.std.specs.Prelude.{◌≡◌, ◌≢◌, ◌↔◌, ◌<◌, ◌++◌, ◌∷◌, [], ℕ, IfOk, IfErr, IsOk, MatchResult, None};
     ghost use Rattle.stabby_count.specs.Shared.{arc_value, arc_block, arc_record, spent_block, spent_record, spent_word, IsSole};
     ghost use Rattle.stabby_count.specs.Records.{AddsLook, note, strong_of, alone};
@@ -351,11 +361,11 @@ impl<T: Drop> Arc<T> {
         ensures new_record { IfOk result (λ made. arc_record made ≡ []) }
         ensures refused { IfErr result (λ back. back ≡ (value, Memory)) }
     {
-        let boxed = match Box::new(alloc, value) {
+        let boxed = match RawBox::new(alloc, value) {
             Ok(boxed) => boxed,
-            Err(AllocFailed { value }) => return Err((value, AllocationError::Memory)),
+            Err(value) => return Err((value, AllocationError::Memory)),
         };
-        let (word, mut seat, mut permission) = CountWord::share(boxed);
+        let (word, mut seat, mut permission) = CountWord::new(boxed);
         match Block::new(alloc, word) {
             Ok(block) => Ok(Arc {
                 block,
@@ -388,7 +398,7 @@ impl<T: Drop> Arc<T> {
             own,
             alloc,
         } = self;
-        drop(own);
+        no_box(own);
         let word = block.end_strong::<EndStrong>(&mut seat, &mut permission);
         if word / ONE_STRONG != 1 {
             permission.done();
@@ -437,7 +447,7 @@ impl<T: Drop> Arc<T> {
             };
             return (Err(back), word);
         }
-        drop(own);
+        no_box(own);
         (Ok(take_value(&block, &mut seat, permission, alloc)), word)
     }
 
@@ -457,7 +467,7 @@ impl<T: Drop> Arc<T> {
     }
 }
 
-impl<T: Drop> Arc<T> {
+impl<T> Arc<T> {
     ghost use Rattle.std.specs.Prelude.{◌≡◌, [], Ok, Err, IfOk, IfErr};
     ghost use Rattle.stabby_count.specs.Shared.{arc_value, arc_record, IsSole};
     ghost use Rattle.stabby_text.specs.Making.{MadeOrFault};
@@ -499,7 +509,7 @@ impl<T: Clone + Drop> Arc<T> {
         ensures value { MatchResult result (λ r. (is_some self.old.own ≡ true) × (r.now ≡ arc_value self.old)) (λ error. (is_some self.old.own ≡ false) × (error ≡ Memory)) }
     {
         match &mut self.own {
-            Some(boxed) => Ok(&mut **boxed),
+            Some(boxed) => Ok(boxed.get_mut()),
             None => Err(AllocationError::Memory),
         }
     }

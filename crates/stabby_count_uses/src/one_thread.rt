@@ -14,7 +14,7 @@ use std::sync::Wait;
 /// # Errors
 ///
 /// The value comes back with `AllocationError::Memory` where there is no memory to share it.
-pub fn share_and_end<T: Drop>(alloc: Global, value: T) -> Result<T, (T, AllocationError)>
+pub fn share_and_end<T>(alloc: Global, value: T) -> Result<T, (T, AllocationError)>
     ensures value { IfOk result (λ back. back ≡ value) }
     ensures refused { IfErr result (λ back. back ≡ (value, Memory)) }
 {
@@ -45,7 +45,7 @@ pub fn set_where_alone(handle: &mut Arc<u64>, number: u64) -> bool
 }
 
 /// Waits until this is the only handle, and takes the value.
-pub fn take_back<T: Drop, H: Wait>(rt: &H, handle: Arc<T>) -> T
+pub fn take_back<T, H: Wait>(rt: &H, handle: Arc<T>) -> T
     ensures { result ≡ arc_value handle }
 {
     let mut kept = handle;

@@ -19,7 +19,7 @@ pub struct Single<T, L: Ledger> {
     part: Mutex<OnlyPart<L>>,
 }
 
-impl<T: Drop, L: Ledger> Single<T, L> {
+impl<T, L: Ledger> Single<T, L> {
     /// Puts the only part of a new ledger beside the value.
     pub fn new(value: T, blank: Blank) -> Single<T, L>
         requires ledger { (blank.name ≡ L.name) × (blank.parts ≡ L.parts) }

@@ -45,7 +45,7 @@ fn end_both<T: Drop + Send + Sync, H: Threads>(
 }
 
 // The ends of two handles of one value, of which at most one gives it.
-fn at_most_one<T: Drop, L: Ledger>(
+fn at_most_one<T, L: Ledger>(
     first: Result<Single<T, L>, Spent>,
     second: Result<Single<T, L>, Spent>,
 ) -> (Result<T, Spent>, Result<T, Spent>)

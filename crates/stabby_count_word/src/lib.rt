@@ -12,6 +12,7 @@ mod seat;
 mod word;
 
 pub use permission::Permission;
+pub use raw_box::RawBox;
 pub use rule::{CountRule, CountSplit, CountStep};
 pub use seat::Seat;
 pub use word::CountWord;

@@ -46,22 +46,6 @@ impl<T> Permission<T> {
         Permission { ptr: self.ptr }
     }
 
-    /// The box of a sole strong share. The right to bring a value back stays.
-    pub fn take_box(&mut self, alloc: Global) -> Box<T>
-        requires { self.old.kind ≡ seized }
-        ensures { (self.new ≡ record self.old { kind = vacant }) × (result.value ≡ self.old.value) }
-    {
-        self.open(alloc).into_box()
-    }
-
-    /// The box, once all rights are together.
-    pub fn into_box(self, alloc: Global) -> Box<T>
-        requires { self.kind ≡ whole }
-        ensures { result.value ≡ self.value }
-    {
-        self.thaw(alloc).into_box()
-    }
-
     /// Ends a permission to nothing.
     pub fn done(self)
         requires { self.kind ≡ nothing }
@@ -69,7 +53,8 @@ impl<T> Permission<T> {
         let Permission { ptr: _ } = self;
     }
 
-    fn open(&mut self, alloc: Global) -> RawBox<T, Global>
+    /// The box of a sole strong share. The right to bring a value back stays.
+    pub fn take_box(&mut self, alloc: Global) -> RawBox<T, Global>
         requires { self.old.kind ≡ seized }
         ensures { (self.new ≡ record self.old { kind = vacant }) × (result.value ≡ self.old.value) }
     {
@@ -79,7 +64,8 @@ impl<T> Permission<T> {
         }
     }
 
-    fn fill(self, value: RawBox<T, Global>) -> Permission<T>
+    /// Puts a box in for others to share. `CountWord::give_back` brings it to the word.
+    pub fn put_box(self, value: RawBox<T, Global>) -> Permission<T>
         requires { self.kind ≡ vacant }
         ensures { (result.kind ≡ returning) × (result.word_names ≡ self.word_names) × (result.value ≡ value.value) }
     {
@@ -88,22 +74,13 @@ impl<T> Permission<T> {
         Permission { ptr: at }
     }
 
-    fn thaw(self, alloc: Global) -> RawBox<T, Global>
+    /// The box, once all rights are together.
+    pub fn into_box(self, alloc: Global) -> RawBox<T, Global>
         requires { self.kind ≡ whole }
         ensures { result.value ≡ self.value }
     {
         let Permission { ptr } = self;
         RawBox { at: ptr, alloc }
-    }
-}
-
-impl<T: Drop> Permission<T> {
-    /// Puts a box in for others to share. `CountWord::give_back` brings it to the word.
-    pub fn put_box(self, value: Box<T>) -> Permission<T>
-        requires { self.kind ≡ vacant }
-        ensures { (result.kind ≡ returning) × (result.word_names ≡ self.word_names) × (result.value ≡ value.value) }
-    {
-        self.fill(RawBox::of(value))
     }
 }
 

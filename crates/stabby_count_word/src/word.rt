@@ -39,19 +39,9 @@ impl<T, W, P: CountRule<W>> Move for CountWord<T, W, P> {
     ghost own_val = { λ d vs. counted_owns T.row W.row.coded.code P.holds d (λ n. Fields.own_val (record { word = n; marker = record {} }) vs) };
 }
 
-impl<T: Drop, W, P: CountRule<W>> CountWord<T, W, P> {
-    /// A word of one strong share and the value's own weak unit, the seat of that share, and its permission.
-    pub fn share(value: Box<T>) -> (CountWord<T, W, P>, Seat<W>, Permission<T>)
-        requires { P.holds 4294967297 (P.first ∷ []) }
-        ensures seat { (result.1.views ≡ result.0.views) × (result.1.view ≡ P.first) }
-        ensures permission { (result.2.word_names ≡ result.0) × (result.2.kind ≡ one_strong) × (result.2.value ≡ value.value) }
-    {
-        CountWord::new(RawBox::of(value))
-    }
-}
-
 impl<T, W, P: CountRule<W>> CountWord<T, W, P> {
-    fn new(value: RawBox<T, Global>) -> (CountWord<T, W, P>, Seat<W>, Permission<T>)
+    /// A word of one strong share and the value's own weak unit, the seat of that share, and its permission.
+    pub fn new(value: RawBox<T, Global>) -> (CountWord<T, W, P>, Seat<W>, Permission<T>)
         requires { P.holds 4294967297 (P.first ∷ []) }
         ensures seat { (result.1.views ≡ result.0.views) × (result.1.view ≡ P.first) }
         ensures permission { (result.2.word_names ≡ result.0) × (result.2.kind ≡ one_strong) × (result.2.value ≡ value.value) }

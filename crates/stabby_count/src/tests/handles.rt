@@ -159,3 +159,37 @@ fn faults_are_told_apart(rt: HostRuntime) {
     assert!(rt; moved != TryCountFault::Memory);
     assert!(rt; moved == moved);
 }
+
+// It can't be let go: whoever has one hands it on or takes it apart.
+struct Coin(u64);
+
+fn spend(coin: Coin) -> u64 {
+    let Coin(worth) = coin;
+    worth
+}
+
+fn ended(handle: Arc<Coin>) -> u64 {
+    match handle.end() {
+        Ok(coin) => spend(coin),
+        Err(_) => 0,
+    }
+}
+
+#[test]
+fn value_that_cannot_be_let_go(rt: HostRuntime) -> Result<(), Fail> {
+    let mut first = match Arc::try_new_in(rt.alloc(), Coin(7)) {
+        Ok(first) => first,
+        Err((coin, _)) => {
+            spend(coin);
+            return Err(Fail::from("no memory to share a coin"));
+        }
+    };
+    let Ok(second) = first.clone(&rt) else {
+        ended(first);
+        return Err(Fail::from("a clone was refused"));
+    };
+    let (one, other) = (ended(first), ended(second));
+    assert_eq!(rt; one, 0);
+    assert_eq!(rt; other, 7);
+    Ok(())
+}

@@ -34,13 +34,13 @@ use denote.Struct.Lending.{Lends-lies}
 use base.Fml.{fex}
 use Rattle.stabby_count_word.proofs.PartFields.{word, word_good, Data, told, made}
 use Rattle.stabby_count_word.proofs.Values.{both, RawBox, loose_good, loose_out}
-use Rattle.stabby_count_word.specs.contracts.permission.Permission.fill.{ended, clauses}
-use Rattle.stabby_count_word.specs.contracts.permission.Permission.fill.Key.{name as #self}
-use Rattle.stabby_count_word.proofs.permission.Permission.fill.Statement.{statement}
-use Rattle.stabby_count_word.proofs.permission.Permission.fill.Code as code
+use Rattle.stabby_count_word.specs.contracts.permission.Permission.put_box.{ended, clauses}
+use Rattle.stabby_count_word.specs.contracts.permission.Permission.put_box.Key.{name as #self}
+use Rattle.stabby_count_word.proofs.permission.Permission.put_box.Statement.{statement}
+use Rattle.stabby_count_word.proofs.permission.Permission.put_box.Code as code
 
-pub fill_spec : {M : Type 1} → statement M
-fill_spec 𝓤 𝓛 𝓜 𝓡 wired T L =
+pub put_box_spec : {M : Type 1} → statement M
+put_box_spec 𝓤 𝓛 𝓜 𝓡 wired T L =
     let H = 𝓛.H in let 𝓣 = tables 𝓤 H 𝓜 𝓡 𝓡.env in let R : RattleType = param 0 T in let LR = param_laws 0 T L in let En = ended T in let c = clauses T 𝓛 𝓜.mem 𝓡.returns in
     let inst = layouts (a_type ∷ []) (T, tt) in let fn = inst_fn inst code.function in let Z : RattleType = heap.the_row in let LZ = heap_laws.the_row_laws in let Row : RattleType = part.the_row R in let D : RattleType = Data R in
     let Lr : RattleType = RawBox R Z LZ ghosts in let hs : Stays En.signature.params En.kept = (stay_dropped (plain (λ _. Row)) no, (stay_dropped (plain (λ _. Lr)) no, tt)) in

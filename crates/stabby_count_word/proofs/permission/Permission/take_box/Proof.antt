@@ -33,13 +33,13 @@ use Rattle.std.proofs.alloc.Global.TheLaws as heap_laws
 use Rattle.std.specs.contracts.impls.GlobalAllocator.TheImpl.{ghosts}
 use Rattle.std_alloc.specs.Box.Ownership.{box_owns}
 use Rattle.stabby_count_word.proofs.Values.{both, RawBox, loose_good, loose_in}
-use Rattle.stabby_count_word.specs.contracts.permission.Permission.open.{ended, clauses}
-use Rattle.stabby_count_word.specs.contracts.permission.Permission.open.Key.{name as #self}
-use Rattle.stabby_count_word.proofs.permission.Permission.open.Statement.{statement}
-use Rattle.stabby_count_word.proofs.permission.Permission.open.Code as code
+use Rattle.stabby_count_word.specs.contracts.permission.Permission.take_box.{ended, clauses}
+use Rattle.stabby_count_word.specs.contracts.permission.Permission.take_box.Key.{name as #self}
+use Rattle.stabby_count_word.proofs.permission.Permission.take_box.Statement.{statement}
+use Rattle.stabby_count_word.proofs.permission.Permission.take_box.Code as code
 
-pub open_spec : {M : Type 1} → statement M
-open_spec 𝓤 𝓛 𝓜 𝓡 wired X L =
+pub take_box_spec : {M : Type 1} → statement M
+take_box_spec 𝓤 𝓛 𝓜 𝓡 wired X L =
     let H = 𝓛.H in let 𝓣 = tables 𝓤 H 𝓜 𝓡 𝓡.env in let R : RattleType = param 0 X in let En = ended X in let inst = layouts (a_type ∷ []) (X, tt) in let fn = inst_fn inst code.function in
     let Row : RattleType = part.the_row R in let D : RattleType = Data R in let c = clauses X 𝓛 𝓜.mem 𝓡.returns in let Z : RattleType = heap.the_row in let LZ = heap_laws.the_row_laws in let Lr : RattleType = RawBox R Z LZ ghosts in
     let self = plain (λ _. Row) in let hs : Stays En.signature.params En.kept = (stay_ref (0 ∷ []) tt self, (stay_dropped (plain (λ _. Z)) yes, tt)) in
