@@ -8,4 +8,4 @@ mod tests;
 mod two_threads;
 
 pub use one_thread::{set_where_alone, share_and_end, take_back};
-pub use two_threads::{Lent, end_in_two_threads, lend_to_two_threads};
+pub use two_threads::{Lent, end_in_two_threads, lend_to_two_threads, read_in_two_threads};

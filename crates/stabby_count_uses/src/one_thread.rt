@@ -14,7 +14,7 @@ use std::sync::Wait;
 /// # Errors
 ///
 /// The value comes back with `AllocationError::Memory` where there is no memory to share it.
-pub fn share_and_end<T>(alloc: Global, value: T) -> Result<T, (T, AllocationError)>
+pub fn share_and_end<T: Drop>(alloc: Global, value: T) -> Result<T, (T, AllocationError)>
     ensures value { IfOk result (λ back. back ≡ value) }
     ensures refused { IfErr result (λ back. back ≡ (value, Memory)) }
 {

@@ -1,5 +1,7 @@
 //! The callers, run.
-use crate::{end_in_two_threads, lend_to_two_threads, set_where_alone, share_and_end};
+use crate::{
+    end_in_two_threads, lend_to_two_threads, read_in_two_threads, set_where_alone, share_and_end,
+};
 use stabby_count::{Arc, Spent};
 use std::test::Fail;
 
@@ -62,5 +64,14 @@ fn value_comes_back_from_two_threads(rt: HostRuntime) -> Result<(), Fail> {
         assert!(rt; first.max(second) == 3 * ONE_STRONG + 1);
         assert!(rt; first.min(second) == 2 * ONE_STRONG + 1);
     }
+    Ok(())
+}
+
+#[test]
+fn two_threads_read_by_one_handle(rt: HostRuntime) -> Result<(), Fail> {
+    let Ok(handle) = Arc::try_new_in(rt.alloc(), 7u64) else {
+        return Err("no memory")?;
+    };
+    assert_eq!(rt; read_in_two_threads(&rt, &handle), (7, 7));
     Ok(())
 }

@@ -24,6 +24,21 @@ pub struct Lent<T> {
     pub second: Spent,
 }
 
+/// Reads a shared value in two threads, by one handle that both borrow.
+pub fn read_in_two_threads<T: Copy + Send + Sync, H: Threads>(rt: &H, handle: &Arc<T>) -> (T, T)
+    ensures { (result.0 ≡ arc_value handle.now) × (result.1 ≡ arc_value handle.now) }
+{
+    join(
+        rt,
+        || -> T
+            ensures { result ≡ arc_value handle.entry.now }
+        { **handle },
+        || -> T
+            ensures { result ≡ arc_value handle.entry.now }
+        { **handle },
+    )
+}
+
 /// Ends two handles in two threads, in either order.
 fn end_both<T: Drop + Send + Sync, H: Threads>(
     rt: &H,
