@@ -3,7 +3,9 @@ use crate::callers::{cut, cut_both, ends_of, first_of, first_then_last, stop_at_
 use crate::{BoxedSlice, SingleOrVec, Vec};
 use stabby_layout::AllocationError;
 use std::alloc::Global;
+use std::cmp::Ordering;
 use std::fmt;
+use std::hash::{DefaultHasher, Hash, Hasher};
 use std::test::Fail;
 
 #[test]
@@ -344,5 +346,65 @@ fn hex_and_display(rt: HostRuntime) -> Result<(), Fail> {
     let error = AllocationError::Range;
     let text = format!(in rt.alloc(); "{error}")?;
     assert_eq!(rt; text.as_str(), "AllocationError");
+    Ok(())
+}
+
+fn hash_of<T: Hash>(value: &T) -> u64 {
+    let mut hasher = DefaultHasher::new();
+    value.hash(&mut hasher);
+    hasher.finish()
+}
+
+#[test]
+fn lists_hash_as_slices(rt: HostRuntime) -> Result<(), Fail> {
+    let list = Vec::from_slice(rt.alloc(), &[1u8, 255])?;
+    assert_eq!(rt; hash_of(&list), hash_of(&[1u8, 255].as_slice()));
+    let boxed = BoxedSlice::from_slice(rt.alloc(), &[1u8, 255])?;
+    assert_eq!(rt; hash_of(&boxed), hash_of(&[1u8, 255].as_slice()));
+    Ok(())
+}
+
+#[test]
+fn lists_are_ordered_as_slices(rt: HostRuntime) -> Result<(), Fail> {
+    let list = Vec::from_slice(rt.alloc(), &[1u8, 255])?;
+    let more = Vec::from_slice(rt.alloc(), &[1u8, 255, 0])?;
+    assert!(rt; list.cmp(&more) == Ordering::Less);
+    let boxed = BoxedSlice::from_vec(list);
+    let longer = BoxedSlice::from_vec(more);
+    assert!(rt; longer.cmp(&boxed) == Ordering::Greater);
+    assert_eq!(rt; longer.as_slice(), [1u8, 255, 0].as_slice());
+    Ok(())
+}
+
+#[test]
+fn inline_or_vec_ordered(rt: HostRuntime) -> Result<(), Fail> {
+    let mut inline = SingleOrVec::new_in(rt.alloc());
+    inline.push(1u8)?;
+    let less = SingleOrVec::from_vec(Vec::from_slice(rt.alloc(), &[0u8, 9])?);
+    let same = SingleOrVec::from_vec(Vec::from_slice(rt.alloc(), &[1u8])?);
+    assert!(rt; inline.cmp(&less) == Ordering::Greater);
+    assert!(rt; inline.cmp(&same) == Ordering::Equal);
+    Ok(())
+}
+
+#[test]
+fn sizes_are_exact(rt: HostRuntime) -> Result<(), Fail> {
+    let mut list = Vec::from_slice(rt.alloc(), &[0u8, 1, 2, 3, 4])?;
+    let Some(mut drain) = list.try_drain(1, 4) else {
+        return Err(Fail::from("the range is within the list"));
+    };
+    assert_eq!(rt; drain.next(), Some(1));
+    assert_eq!(rt; drain.size_hint(), (2, Some(2)));
+    let mut both = drain.double_ended();
+    assert_eq!(rt; both.next_back(), Some(3));
+    assert_eq!(rt; both.len(), 1);
+    Ok(())
+}
+
+#[test]
+fn a_list_lends_its_allocator(rt: HostRuntime) -> Result<(), Fail> {
+    let list: Vec<u8, Global> = Vec::new_in(rt.alloc());
+    let other = Vec::from_slice(*list.allocator(), &[1u8, 2])?;
+    assert_eq!(rt; other.as_slice(), [1u8, 2].as_slice());
     Ok(())
 }
