@@ -26,9 +26,13 @@ module _ {X : Type 0} where
   abbrev pub IsSharedSlice : ArcSlice X → Type 0
   IsSharedSlice a = IsShared a.shared
 
-  -- one read told whether a handle lends its items: one that did has the items xs, which were written, in the capacity that it had, and one that did not has its own
+  -- one read told whether a handle lends its list: one that did has the list that was written, and one that did not has its own
+  abbrev pub IsLentList : ArcSlice X → ArcSlice X → Sequence X → Bool → Type 0
+  IsLentList before after list lent = IsLent before.shared after.shared list lent
+
+  -- the same where it lends the items alone, whose list keeps its capacity
   abbrev pub IsLentSlice : ArcSlice X → ArcSlice X → List X → Bool → Type 0
-  IsLentSlice before after xs lent = IsLent before.shared after.shared (with_items (slice_value before) xs) lent
+  IsLentSlice before after items lent = IsLentList before after (with_items (slice_value before) items) lent
 
   abbrev pub weak_slice_value : WeakSlice X → Sequence X
   weak_slice_value w = weak_value w.shared

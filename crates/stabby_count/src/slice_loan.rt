@@ -1,4 +1,4 @@
-//! The items of a shared slice, lent to be changed in place.
+//! The list or the items of a shared slice, lent to be changed in place.
 ghost use Rattle.std.specs.Borrow.{sem};
 ghost use Rattle.std.specs.Prelude.{◌≡◌, IfSome, true, is_some};
 ghost use Rattle.stabby_count.specs.BoxedLists.{box_lends_items, held_lends_items};
@@ -50,8 +50,9 @@ impl<T> Arc<Vec<T, Global>> {
 impl<T> ArcSlice<T> {
     ghost use Rattle.std.specs.Borrow.{Array, Lends, LendsSo, sem};
     ghost use Rattle.std.specs.Prelude.{◌≡◌, IfSome, IsTrue, true, is_some};
+    ghost use Rattle.stabby_count.specs.BoxedLists.{list_row};
     ghost use Rattle.stabby_count.specs.Records.{ReadsAlone};
-    ghost use Rattle.stabby_count.specs.SharedSlices.{slice_value, slice_items, slice_block, slice_record, IsSoleSlice, IsLentSlice};
+    ghost use Rattle.stabby_count.specs.SharedSlices.{slice_value, slice_items, slice_block, slice_record, IsSoleSlice, IsLentList, IsLentSlice};
     ghost use Rattle.stabby_count.specs.SliceLoans.{with_slice_items};
     ghost use Rattle.stabby_count.specs.contracts.slice.ArcSlice.{the_row};
 
@@ -73,6 +74,18 @@ impl<T> ArcSlice<T> {
         ensures value { result.now ≡ slice_items self.old }
     {
         self.shared.own_items()
+    }
+
+    /// The list to be changed, where this is the only handle.
+    ///
+    /// `None` comes as for `as_slice_mut`. What is written through the reference is the slice of all later
+    /// handles, with its capacity; a caller's proof learns it, as it can't of `as_slice_mut`.
+    pub fn get_mut(&mut self) -> Option<&mut Vec<T, Global>>
+        ensures* writes_back { sem 𝓛 (LendsSo (the_row T.row) (list_row T.row) self.entry result (λ n w. IsLentList self.old n w (is_some result)) (λ n. IsLentList self.old n (slice_value self.old) (is_some result))) }
+        ensures value { IfSome result (λ r. r.now ≡ slice_value self.old) }
+        ensures sole { IsSoleSlice self.old → is_some result ≡ true }
+    {
+        self.shared.get_mut()
     }
 
     /// The items to be changed in place, where this is the only handle.

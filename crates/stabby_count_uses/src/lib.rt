@@ -7,5 +7,5 @@ mod single;
 mod tests;
 mod two_threads;
 
-pub use one_thread::{set_where_alone, share_and_end, take_back};
+pub use one_thread::{set_first_where_alone, set_where_alone, share_and_end, take_back};
 pub use two_threads::{Lent, end_in_two_threads, lend_to_two_threads, read_in_two_threads};

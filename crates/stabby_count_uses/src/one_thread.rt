@@ -1,10 +1,12 @@
 //! Calls on one handle.
-ghost use Rattle.std.specs.Prelude.{◌≡◌, IfOk, IfErr, IsTrue, false};
+ghost use Rattle.std.specs.Prelude.{◌≡◌, ◌<◌, IfOk, IfErr, IsTrue, false};
 ghost use Rattle.stabby_count.specs.Shared.{arc_value, arc_record, IsSole};
+ghost use Rattle.stabby_count.specs.SharedSlices.{slice_value, slice_record, IsSoleSlice};
 ghost use Rattle.stabby_count.specs.Records.{ReadsAlone};
+ghost use Rattle.stabby_vec.specs.Sequence.{sequence_len, with_item};
 ghost use Rattle.stabby_layout.specs.declared.error.AllocationError.TheVariants.{Memory};
 
-use stabby_count::Arc;
+use stabby_count::{Arc, ArcSlice};
 use stabby_layout::AllocationError;
 use std::alloc::Global;
 use std::sync::Wait;
@@ -42,6 +44,21 @@ pub fn set_where_alone(handle: &mut Arc<u64>, number: u64) -> bool
         }
         None => false,
     }
+}
+
+/// Writes a number in the place of the first item where this is the only handle, and answers whether it was.
+pub fn set_first_where_alone(handle: &mut ArcSlice<u64>, number: u64) -> bool
+    requires { 0 < sequence_len (slice_value handle.old) }
+    ensures written { IsTrue result → slice_value handle.new ≡ with_item (slice_value handle.old) 0 number }
+    ensures unchanged { result ≡ false → slice_value handle.new ≡ slice_value handle.old }
+    ensures read { ReadsAlone (slice_record handle.old) (slice_record handle.new) result }
+    ensures sole { IsSoleSlice handle.old → IsTrue result }
+{
+    let Some(list) = handle.get_mut() else {
+        return false;
+    };
+    list.as_slice_mut()[0] = number;
+    true
 }
 
 /// Waits until this is the only handle, and takes the value.

@@ -1,8 +1,9 @@
 //! The callers, run.
 use crate::{
-    end_in_two_threads, lend_to_two_threads, read_in_two_threads, set_where_alone, share_and_end,
+    end_in_two_threads, lend_to_two_threads, read_in_two_threads, set_first_where_alone,
+    set_where_alone, share_and_end,
 };
-use stabby_count::{Arc, Spent};
+use stabby_count::{Arc, ArcSlice, Spent};
 use std::test::Fail;
 
 const ONE_STRONG: u64 = 4294967296;
@@ -13,6 +14,19 @@ fn one_handle_gives_its_value(rt: HostRuntime) -> Result<(), Fail> {
         return Err("no memory")?;
     };
     assert!(rt; value == 7);
+    Ok(())
+}
+
+#[test]
+fn an_item_changes_where_alone(rt: HostRuntime) -> Result<(), Fail> {
+    let Ok(mut handle) = ArcSlice::from_slice(rt.alloc(), &[7u64, 9]) else {
+        return Err("no memory")?;
+    };
+    assert!(rt; set_first_where_alone(&mut handle, 8));
+    let Ok(other) = handle.clone(&rt) else {
+        return Err("no memory")?;
+    };
+    assert!(rt; other.as_slice() == [8u64, 9].as_slice());
     Ok(())
 }
 
