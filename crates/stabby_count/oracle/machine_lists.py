@@ -30,6 +30,12 @@ class Block:
     def word(self):
         return len(self.strong) << 32 | self.low()
 
+    def add(self, handles, count):
+        if count == LIMIT:
+            return ["full"]
+        handles.add(self.fresh())
+        return ["done"]
+
     def release(self):
         self.value = "released"
         return ["freed"]
@@ -39,26 +45,17 @@ class Block:
         if step == "clone":
             if not self.strong:
                 return ["not held"]
-            if len(self.strong) == LIMIT:
-                return ["full"]
-            self.strong.add(self.fresh())
-            return ["done"]
+            return self.add(self.strong, len(self.strong))
         if step == "downgrade":
             if nobody:
                 return ["not held"]
-            if self.low() == LIMIT:
-                return ["full"]
-            self.weak.add(self.fresh())
-            return ["done"]
+            return self.add(self.weak, self.low())
         if step == "upgrade":
             if not self.weak:
                 return ["not held"]
             if not self.strong:
                 return ["gone"]
-            if len(self.strong) == LIMIT:
-                return ["full"]
-            self.strong.add(self.fresh())
-            return ["done"]
+            return self.add(self.strong, len(self.strong))
         if step == "end strong":
             if not self.strong:
                 return ["not held"]
