@@ -140,7 +140,3 @@ module _ (R : RattleType) {W : Type 0} (e : W → Gv) (holds : ℕ → List W �
 -- a view is cut in two, and a new mark has the second
 abbrev pub Cuts : {W : Type 0} → (ℕ → List W → Type 0) → ℕ → W → W → W → Type 0
 Cuts {W} holds id v left right = (n : ℕ) (views : List W) → holds n views → get_elem? views id ≡ some v → holds n (slice_set views id left ++ right ∷ [])
-
--- what a `&` to a box as its pointer has: it shows the value
-abbrev pub raw_box_shares : (R : RattleType) → Ptr → R.Denot → Lft → Fml
-raw_box_shares R p x κ = lent_at R p x κ

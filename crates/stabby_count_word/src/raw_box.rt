@@ -2,7 +2,7 @@
 ghost use Rattle.std.specs.Borrow.{sem};
 ghost use Rattle.std.specs.Prelude.{◌≡◌, MatchResult};
 ghost use Rattle.std_alloc.specs.Box.Ownership.{box_owns};
-ghost use Rattle.stabby_count_word.specs.Rights.{raw_box_shares};
+ghost use denote.Struct.Lending.{lent_at};
 
 use std::alloc::Allocator;
 use std::marker::Model;
@@ -21,7 +21,7 @@ pub struct RawBox<T, A: Allocator> {
 impl<T, A: Allocator> Model for RawBox<T, A> {
     ghost also_owns = { λ b. box_owns (A.dealloc_token b.alloc) T.row b.at b.value };
 
-    ghost also_shares = { λ b _ κ. raw_box_shares T.row b.at b.value κ };
+    ghost also_shares = { λ b _ κ. lent_at T.row b.at b.value κ };
 }
 
 impl<T, A: Allocator> RawBox<T, A> {
