@@ -69,7 +69,7 @@ impl AllocPrefix {
         ensures ok { IfOk result (λ block. ChangesAt (H.blocks heap.old) (H.blocks heap.new) block.number
             (Some (prefixed (array_layout T.stated_layout capacity) (first_prefix capacity block.number)))) }
         ensures faults { (fault : BlockFault) → fault ≢ Memory → IsErrOf result fault ↔ array_due (H.due heap.old) (array_layout T.stated_layout capacity) fault }
-        ensures err { OnErr result (SameBlocks (H.blocks heap.old) (H.blocks heap.new)) }
+        ensures unchanged { OnErr result (SameBlocks (H.blocks heap.old) (H.blocks heap.new)) }
         ensures err_due { OnErr result (SameDue (H.due heap.old) (H.due heap.new)) }
     {
         let layout = array_of::<T>(capacity)?;

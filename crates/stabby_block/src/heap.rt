@@ -26,7 +26,7 @@ pub trait IAlloc {
         ensures fresh { IfOk result (λ block. blocks self.old block.number ≡ None) }
         ensures ok { IfOk result (λ block. ChangesAt (blocks self.old) (blocks self.new) block.number (Some (zeroed layout))) }
         ensures faults { (fault : BlockFault) → fault ≢ Memory → IsErrOf result fault ↔ due self.old layout fault }
-        ensures err { OnErr result (SameBlocks (blocks self.old) (blocks self.new)) }
+        ensures unchanged { OnErr result (SameBlocks (blocks self.old) (blocks self.new)) }
         ensures err_due { OnErr result (SameDue (due self.old) (due self.new)) };
 
     /// Ends a live block. The others stay.
@@ -45,8 +45,8 @@ pub trait IAlloc {
         ensures ok { IfOk result (λ new. (bytes : List ℕ) → IsHeld (blocks self.old) block bytes
             → MovesTo (blocks self.old) (blocks self.new) block.number new.number (record { layout = new.layout; bytes = resized bytes new_size })) }
         ensures faults { (fault : BlockFault) → fault ≢ Memory → IsErrOf result (block, fault) ↔ due self.old (resized_layout block.layout new_size) fault }
-        ensures back { IfErr result (λ refused. refused.0 ≡ block) }
-        ensures err { OnErr result (SameBlocks (blocks self.old) (blocks self.new)) }
+        ensures value_back { IfErr result (λ refused. refused.0 ≡ block) }
+        ensures unchanged { OnErr result (SameBlocks (blocks self.old) (blocks self.new)) }
         ensures err_due { OnErr result (SameDue (due self.old) (due self.new)) };
 
     /// Whether the block with this number is live and has this layout.

@@ -130,7 +130,7 @@ impl IAlloc for Ledger {
         ensures fresh { IfOk result (λ block. ledger_blocks self.old block.number ≡ None) }
         ensures ok { IfOk result (λ block. ChangesAt (ledger_blocks self.old) (ledger_blocks self.new) block.number (Some (zeroed layout))) }
         ensures faults { (fault : BlockFault) → fault ≢ Memory → IsErrOf result fault ↔ ledger_due self.old layout fault }
-        ensures err { OnErr result (SameBlocks (ledger_blocks self.old) (ledger_blocks self.new)) }
+        ensures unchanged { OnErr result (SameBlocks (ledger_blocks self.old) (ledger_blocks self.new)) }
         ensures err_due { OnErr result (SameDue (ledger_due self.old) (ledger_due self.new)) }
         ensures number { IfOk result (λ block. block.number ≡ next_of self.old) }
         ensures tally { OnOk result (HasTally self.new (next_of self.old + 1) (used_of self.old + layout.size) (live_count self.old + 1)) }
@@ -170,8 +170,8 @@ impl IAlloc for Ledger {
         ensures ok { IfOk result (λ new. (bytes : List ℕ) → IsHeld (ledger_blocks self.old) block bytes
             → MovesTo (ledger_blocks self.old) (ledger_blocks self.new) block.number new.number (record { layout = new.layout; bytes = resized bytes new_size })) }
         ensures faults { (fault : BlockFault) → fault ≢ Memory → IsErrOf result (block, fault) ↔ ledger_due self.old (resized_layout block.layout new_size) fault }
-        ensures back { IfErr result (λ refused. refused.0 ≡ block) }
-        ensures err { OnErr result (SameBlocks (ledger_blocks self.old) (ledger_blocks self.new)) }
+        ensures value_back { IfErr result (λ refused. refused.0 ≡ block) }
+        ensures unchanged { OnErr result (SameBlocks (ledger_blocks self.old) (ledger_blocks self.new)) }
         ensures err_due { OnErr result (SameDue (ledger_due self.old) (ledger_due self.new)) }
         ensures number { IfOk result (λ new. new.number ≡ next_of self.old) }
         ensures tally { OnOk result (HasTally self.new (next_of self.old + 1) (used_of self.old + new_size - block.layout.size) (live_count self.old)) }

@@ -92,7 +92,7 @@ impl<T> ArcSlice<T> {
         ensures value { IfOk result (λ made. slice_value made ≡ value) }
         ensures sole { IfOk result IsSoleSlice }
         ensures new_record { IfOk result (λ made. slice_record made ≡ []) }
-        ensures refused { IfErr result (λ back. back ≡ (value, Memory)) }
+        ensures value_back { IfErr result (λ back. back ≡ (value, Memory)) }
     {
         match Arc::try_new_in(alloc, value) {
             Ok(shared) => Ok(ArcSlice { shared }),
@@ -161,7 +161,7 @@ impl<T: Copy> ArcSlice<T> {
         ensures items { IfOk result (λ made. slice_items made ≡ value.now) }
         ensures sole { IfOk result IsSoleSlice }
         ensures new_record { IfOk result (λ made. slice_record made ≡ []) }
-        ensures error { IfErr result (λ error. error ≡ Memory) }
+        ensures memory { IfErr result (λ error. error ≡ Memory) }
     {
         let Ok(list) = Vec::from_slice(alloc, value) else {
             return Err(AllocationError::Memory);

@@ -359,7 +359,7 @@ impl<T> Arc<T> {
         ensures value { IfOk result (λ made. arc_value made ≡ value) }
         ensures sole { IfOk result IsSole }
         ensures new_record { IfOk result (λ made. arc_record made ≡ []) }
-        ensures refused { IfErr result (λ back. back ≡ (value, Memory)) }
+        ensures value_back { IfErr result (λ back. back ≡ (value, Memory)) }
     {
         let boxed = match RawBox::new(alloc, value) {
             Ok(boxed) => boxed,
@@ -521,9 +521,9 @@ impl<T: Clone + Drop> Arc<T> {
         ensures value { OnOk result ((arc_value self.new ≡ arc_value self.old) ⊎ T.is_clone (arc_value self.old) (arc_value self.new)) }
         ensures parted { OnOk result (PartsWays T.is_clone self.old self.new (arc_value self.new)) }
         ensures was_sole { IsSole self.old → OnOk result ((arc_value self.new ≡ arc_value self.old) × (arc_block self.new ≡ arc_block self.old)) }
-        ensures refused { OnErr result ((arc_value self.new ≡ arc_value self.old) × (arc_block self.new ≡ arc_block self.old)) }
+        ensures unchanged { OnErr result ((arc_value self.new ≡ arc_value self.old) × (arc_block self.new ≡ arc_block self.old)) }
         ensures found_others { OnErr result (FindsOthers self.old self.new) }
-        ensures error { IfErr result (λ error. error ≡ Memory) }
+        ensures memory { IfErr result (λ error. error ≡ Memory) }
         ensures sole_succeeds { IsSole self.old → IsOk result }
     {
         if self.seize() {
@@ -552,7 +552,7 @@ impl<T: Clone + Drop> Arc<T> {
         ensures value { IfOk result (λ r. (r.now ≡ arc_value self.old) ⊎ T.is_clone (arc_value self.old) r.now) }
         ensures sole { IsSole self.old → IfOk result (λ r. r.now ≡ arc_value self.old) }
         ensures sole_succeeds { IsSole self.old → IsOk result }
-        ensures error { IfErr result (λ error. error ≡ Memory) }
+        ensures memory { IfErr result (λ error. error ≡ Memory) }
     {
         self.part_ways(alloc)?;
         self.lend_owned()

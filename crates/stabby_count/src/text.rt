@@ -37,7 +37,7 @@ impl ArcStr {
         ensures value { IfOk result (λ made. text_value made ≡ value) }
         ensures sole { IfOk result IsSoleText }
         ensures new_record { IfOk result (λ made. text_record made ≡ []) }
-        ensures refused { IfErr result (λ back. back ≡ (value, Memory)) }
+        ensures value_back { IfErr result (λ back. back ≡ (value, Memory)) }
     {
         match Arc::try_new_in(alloc, value) {
             Ok(shared) => Ok(ArcStr { shared }),

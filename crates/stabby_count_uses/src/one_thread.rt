@@ -18,7 +18,7 @@ use std::sync::Wait;
 /// The value comes back with `AllocationError::Memory` where there is no memory to share it.
 pub fn share_and_end<T: Drop>(alloc: Global, value: T) -> Result<T, (T, AllocationError)>
     ensures value { IfOk result (λ back. back ≡ value) }
-    ensures refused { IfErr result (λ back. back ≡ (value, Memory)) }
+    ensures value_back { IfErr result (λ back. back ≡ (value, Memory)) }
 {
     let handle = match Arc::try_new_in(alloc, value) {
         Ok(handle) => handle,

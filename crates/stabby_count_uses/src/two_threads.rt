@@ -90,7 +90,7 @@ fn end_single<T: Drop + Send + Sync, L: Ledger + Send + Sync, H: Threads>(
     ensures second { IfOk result (λ ends. MatchResult ends.1 (λ given. given ≡ value) LeftOthers) }
     ensures once { IfOk result (λ ends. IsOk ends.0 → IsErr ends.1) }
     ensures one_block { IfOk result (λ ends. IfErr ends.0 (λ first. IfErr ends.1 (AreOfOneBlock first))) }
-    ensures refused { IfErr result (λ back. back ≡ (value, Memory)) }
+    ensures value_back { IfErr result (λ back. back ≡ (value, Memory)) }
 {
     let mut first = match Arc::try_new_in(alloc, Single::<T, L>::new(value, blank)) {
         Ok(first) => first,
@@ -123,7 +123,7 @@ pub fn end_in_two_threads<T: Drop + Send + Sync, H: Threads>(
     ensures second { IfOk result (λ ends. MatchResult ends.1 (λ given. given ≡ value) LeftOthers) }
     ensures once { IfOk result (λ ends. IsOk ends.0 → IsErr ends.1) }
     ensures one_block { IfOk result (λ ends. IfErr ends.0 (λ first. IfErr ends.1 (AreOfOneBlock first))) }
-    ensures refused { IfErr result (λ back. back ≡ (value, Memory)) }
+    ensures value_back { IfErr result (λ back. back ≡ (value, Memory)) }
 {
     end_single::<T, Brand, H>(rt, alloc, value, Blank::new(1))
 }
@@ -141,7 +141,7 @@ fn lend_single<T: Drop + Send + Sync, L: Ledger + Send + Sync, H: Threads + Wait
     ensures first { IfOk result (λ lent. LeftOthers lent.first) }
     ensures second { IfOk result (λ lent. LeftOthers lent.second) }
     ensures one_block { IfOk result (λ lent. AreOfOneBlock lent.first lent.second) }
-    ensures refused { IfErr result (λ back. back ≡ value) }
+    ensures value_back { IfErr result (λ back. back ≡ value) }
 {
     let mut owner = match Arc::try_new_in(alloc, Single::<T, L>::new(value, blank)) {
         Ok(owner) => owner,
@@ -186,7 +186,7 @@ pub fn lend_to_two_threads<T: Drop + Send + Sync, H: Threads + Wait>(
     ensures first { IfOk result (λ lent. LeftOthers lent.first) }
     ensures second { IfOk result (λ lent. LeftOthers lent.second) }
     ensures one_block { IfOk result (λ lent. AreOfOneBlock lent.first lent.second) }
-    ensures refused { IfErr result (λ back. back ≡ value) }
+    ensures value_back { IfErr result (λ back. back ≡ value) }
 {
     lend_single::<T, Brand, H>(rt, alloc, value, Blank::new(1))
 }

@@ -28,7 +28,7 @@ pub trait Described {
     /// The stated report, or `Memory`.
     fn report(alloc: Global) -> Result<TypeReport, AllocationError>
         ensures ok { IfOk result (λ report. report ≡ stated_report) }
-        ensures err { IfErr result (λ error. error ≡ Memory) };
+        ensures memory { IfErr result (λ error. error ≡ Memory) };
 
     /// Whether `report` is equal to the stated one: the same name, and the same fields in order.
     fn report_is(report: &TypeReport) -> bool

@@ -114,7 +114,7 @@ impl Described for u64 {
 // The report of a type of this name that has no fields.
 fn report_without_fields(alloc: Global, name: &str) -> Result<TypeReport, AllocationError>
     ensures ok { IfOk result (λ report. report ≡ without_fields name.now) }
-    ensures err { IfErr result (λ error. error ≡ Memory) }
+    ensures memory { IfErr result (λ error. error ≡ Memory) }
 {
     let name = Text::from_str(alloc, name)?;
     Ok(TypeReport::new(name, Vec::new(alloc)))

@@ -33,7 +33,7 @@ impl FieldReport {
     // Another field of the same name, id and layout.
     fn copy(&self) -> Result<FieldReport, AllocationError>
         ensures ok { IfOk result (λ field. field ≡ self.now) }
-        ensures err { IfErr result (λ error. error ≡ Memory) }
+        ensures memory { IfErr result (λ error. error ≡ Memory) }
     {
         let name = self.name.copy()?;
         Ok(FieldReport {
@@ -69,7 +69,7 @@ impl TypeReport {
     /// An equal report of its own, or `Memory`.
     pub fn copy(&self) -> Result<TypeReport, AllocationError>
         ensures ok { IfOk result (λ report. report ≡ self.now) }
-        ensures err { IfErr result (λ error. error ≡ Memory) }
+        ensures memory { IfErr result (λ error. error ≡ Memory) }
     {
         let name = self.name.copy()?;
         let mut fields = Vec::with_capacity(*self.fields.allocator(), self.fields.len())?;

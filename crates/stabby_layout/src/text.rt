@@ -34,7 +34,7 @@ impl Text {
     /// A text of its own with the bytes of `s`, or `Memory`.
     pub fn from_str(alloc: Global, s: &str) -> Result<Text, AllocationError>
         ensures ok { IfOk result (λ text. text ≡ s.now) }
-        ensures err { IfErr result (λ error. error ≡ Memory) }
+        ensures memory { IfErr result (λ error. error ≡ Memory) }
     {
         let inner = String::from_str(alloc, s)?;
         Ok(Text { inner })
@@ -50,7 +50,7 @@ impl Text {
     /// Another text with the same bytes, or `Memory`.
     pub fn copy(&self) -> Result<Text, AllocationError>
         ensures ok { IfOk result (λ text. text ≡ self.now) }
-        ensures err { IfErr result (λ error. error ≡ Memory) }
+        ensures memory { IfErr result (λ error. error ≡ Memory) }
     {
         let inner = self.inner.clone()?;
         Ok(Text { inner })

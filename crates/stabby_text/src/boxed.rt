@@ -36,7 +36,8 @@ impl<T, A: Allocator> Box<T, A> {
     /// Puts `value` on the heap. A refusal hands it back, and is always `Memory`.
     pub fn try_new_in(alloc: A, value: T) -> Result<Self, (T, AllocationError)>
         ensures ok { IfOk result (λ made. made ≡ value) }
-        ensures err { IfErr result (λ refusal. (refusal.0 ≡ value) × (refusal.1 ≡ Memory)) }
+        ensures value_back { IfErr result (λ refusal. refusal.0 ≡ value) }
+        ensures memory { IfErr result (λ refusal. refusal.1 ≡ Memory) }
     {
         match std::boxed::Box::new(alloc, value) {
             Ok(inner) => Ok(Box { inner }),
@@ -49,7 +50,7 @@ impl<T, A: Allocator> Box<T, A> {
     where
         T: Drop,
         ensures ok { IfOk result (λ made. made ≡ value) }
-        ensures err { IfErr result (λ error. error ≡ Memory) }
+        ensures memory { IfErr result (λ error. error ≡ Memory) }
     {
         match Box::try_new_in(alloc, value) {
             Ok(made) => Ok(made),
@@ -94,7 +95,7 @@ impl<T, A: Allocator> Box<T, A> {
         A: Clone,
         requires clones_are_equal { (x y : T) → T.is_clone x y → y ≡ x }
         ensures ok { IfOk result (λ copy. copy ≡ self.now) }
-        ensures err { IfErr result (λ error. error ≡ Memory) }
+        ensures memory { IfErr result (λ error. error ≡ Memory) }
     {
         let Ok(alloc) = std::boxed::Box::allocator(&self.inner).clone() else {
             return Err(AllocationError::Memory);

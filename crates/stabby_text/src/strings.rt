@@ -62,7 +62,7 @@ impl<A: Allocator> String<A> {
     pub fn try_from_vec(value: Vec<u8, A>) -> Result<Self, (Vec<u8, A>, Utf8Error)>
         ensures variant { IsOk result ↔ IsUtf8 value.items }
         ensures ok { IfOk result (λ text. text ≡ value) }
-        ensures err { IfErr result (λ refusal. refusal.0 ≡ value) }
+        ensures value_back { IfErr result (λ refusal. refusal.0 ≡ value) }
     {
         if std::str::from_utf8(value.as_slice()).is_err() {
             return Err((value, Utf8Error));
@@ -92,7 +92,7 @@ impl<A: Allocator> String<A> {
     #[tactic(auto, using(crate::proofs::TextLemmas::concat_utf8))]
     pub fn try_concat(&mut self, s: &str) -> Result<(), AllocationError>
         ensures ok { OnOk result (self.new ≡ with_extended self.old s.now) }
-        ensures err { OnErr result (self.new ≡ self.old) }
+        ensures unchanged { OnErr result (self.new ≡ self.old) }
         ensures range { IsErrOf result Range ↔ AsksPastBound self.old (length s.now) }
         ensures room { HasRoomFor self.old (length s.now) → IsOk result }
     {
@@ -117,7 +117,7 @@ impl<A: Allocator> String<A> {
     where
         A: Clone,
         ensures ok { IfOk result (λ copy. copy ≡ exact_text self.now.items) }
-        ensures err { IfErr result (λ error. error ≡ Memory) }
+        ensures memory { IfErr result (λ error. error ≡ Memory) }
     {
         let bytes = self.bytes.copy()?;
         Ok(String { bytes })

@@ -85,8 +85,8 @@ impl<T, A: Allocator> BoxedSlice<T, A> {
     pub fn try_push(&mut self, value: T) -> Result<(), T>
         ensures full { IsErr result ↔ IsFull self.old }
         ensures ok { OnOk result (self.new ≡ with_last self.old value) }
-        ensures err { OnErr result (self.new ≡ self.old) }
-        ensures value_returned { IfErr result (λ refused. refused ≡ value) }
+        ensures unchanged { OnErr result (self.new ≡ self.old) }
+        ensures value_back { IfErr result (λ refused. refused ≡ value) }
     {
         if self.list.len() == self.list.capacity() {
             return Err(value);

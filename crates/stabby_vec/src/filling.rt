@@ -50,7 +50,7 @@ impl<T, A: Allocator> Vec<T, A> {
     where
         T: Copy,
         ensures ok { OnOk result (self.new ≡ with_extended self.old slice.now) }
-        ensures err { OnErr result (self.new ≡ self.old) }
+        ensures unchanged { OnErr result (self.new ≡ self.old) }
         ensures range { IsErrOf result Range ↔ AsksPastBound self.old (length slice.now) }
         ensures room { HasRoomFor self.old (length slice.now) → IsOk result }
     {
@@ -66,7 +66,7 @@ impl<T, A: Allocator> Vec<T, A> {
     where
         T: Copy,
         ensures ok { OnOk result (self.new ≡ with_extended self.old slice.now) }
-        ensures err { OnErr result (self.new ≡ self.old) }
+        ensures unchanged { OnErr result (self.new ≡ self.old) }
         ensures range { IsErrOf result Range ↔ AsksPastBound self.old (length slice.now) }
         ensures room { HasRoomFor self.old (length slice.now) → IsOk result }
     {
@@ -96,7 +96,7 @@ impl<T, A: Allocator> Vec<T, A> {
         A: Clone,
         requires clones_are_equal { (x y : T) → T.is_clone x y → y ≡ x }
         ensures ok { IfOk result (λ list. list ≡ record { items = self.now.items; capacity = sequence_len self.now }) }
-        ensures err { IfErr result (λ error. error ≡ Memory) }
+        ensures memory { IfErr result (λ error. error ≡ Memory) }
     {
         let Ok(alloc) = self.inner.allocator().clone() else {
             return Err(AllocationError::Memory);

@@ -40,7 +40,7 @@ impl<T, A: Allocator> Vec<T, A> {
     pub fn try_reserve(&mut self, additional: usize) -> Result<NonMaxUsize, AllocationError>
         ensures ok { OnOk result (self.new ≡ with_room self.old additional) }
         ensures capacity { IfOk result (λ capacity. capacity ≡ self.new.capacity) }
-        ensures err { OnErr result (self.new ≡ self.old) }
+        ensures unchanged { OnErr result (self.new ≡ self.old) }
         ensures range { IsErrOf result Range ↔ AsksPastBound self.old additional }
         ensures room { HasRoomFor self.old additional → IsOk result }
     {
@@ -62,7 +62,7 @@ impl<T, A: Allocator> Vec<T, A> {
     /// As `try_reserve`, without the capacity.
     pub fn reserve(&mut self, additional: usize) -> Result<(), AllocationError>
         ensures ok { OnOk result (self.new ≡ with_room self.old additional) }
-        ensures err { OnErr result (self.new ≡ self.old) }
+        ensures unchanged { OnErr result (self.new ≡ self.old) }
         ensures range { IsErrOf result Range ↔ AsksPastBound self.old additional }
         ensures room { HasRoomFor self.old additional → IsOk result }
     {
@@ -78,8 +78,8 @@ impl<T, A: Allocator> Vec<T, A> {
     /// spare the call takes no memory, and is `Ok`.
     pub fn try_push(&mut self, value: T) -> Result<(), (T, AllocationError)>
         ensures ok { OnOk result (self.new ≡ with_pushed self.old value) }
-        ensures err { OnErr result (self.new ≡ self.old) }
-        ensures value_returned { IfErr result (λ refusal. refusal.0 ≡ value) }
+        ensures unchanged { OnErr result (self.new ≡ self.old) }
+        ensures value_back { IfErr result (λ refusal. refusal.0 ≡ value) }
         ensures range { IfErr result (λ refusal. refusal.1 ≡ Range ↔ AsksPastBound self.old (push_room self.old)) }
         ensures refused { AsksPastBound self.old (push_room self.old) → IsErr result }
         ensures only_full { IsErr result → IsFull self.old }
@@ -105,7 +105,7 @@ impl<T, A: Allocator> Vec<T, A> {
     where
         T: Drop,
         ensures ok { OnOk result (self.new ≡ with_pushed self.old value) }
-        ensures err { OnErr result (self.new ≡ self.old) }
+        ensures unchanged { OnErr result (self.new ≡ self.old) }
         ensures range { IsErrOf result Range ↔ AsksPastBound self.old (push_room self.old) }
         ensures only_full { IsErr result → IsFull self.old }
         ensures spare { HasRoomFor self.old 1 → IsOk result }

@@ -21,8 +21,8 @@ impl<T, A: Allocator> SingleOrVec<T, A> {
     where
         T: Drop,
         ensures ok { OnOk result (self.new ≡ single_pushed self.old item) }
-        ensures err { OnErr result (self.new ≡ self.old) }
-        ensures value_returned { IfErr result (λ refusal. refusal.0 ≡ item) }
+        ensures unchanged { OnErr result (self.new ≡ self.old) }
+        ensures value_back { IfErr result (λ refusal. refusal.0 ≡ item) }
         ensures range { IfErr result (λ refusal. refusal.1 ≡ Range ↔ AsksPastBound (sequence_of self.old) (push_room (sequence_of self.old))) }
         ensures refused { AsksPastBound (sequence_of self.old) (push_room (sequence_of self.old)) → IsErr result }
         ensures only_full { IsErr result → IsFull (sequence_of self.old) }
@@ -54,7 +54,7 @@ impl<T, A: Allocator> SingleOrVec<T, A> {
     where
         T: Drop,
         ensures ok { OnOk result (self.new ≡ single_pushed self.old value) }
-        ensures err { OnErr result (self.new ≡ self.old) }
+        ensures unchanged { OnErr result (self.new ≡ self.old) }
         ensures range { IsErrOf result Range ↔ AsksPastBound (sequence_of self.old) (push_room (sequence_of self.old)) }
         ensures only_full { IsErr result → IsFull (sequence_of self.old) }
         ensures spare { HasRoomFor (sequence_of self.old) 1 → IsOk result }
@@ -76,7 +76,7 @@ impl<T, A: Allocator> SingleOrVec<T, A> {
         T: Drop,
         ensures ok { OnOk result (self.new ≡ single_with_room self.old additional) }
         ensures capacity { IfOk result (λ capacity. capacity ≡ self.new.capacity) }
-        ensures err { OnErr result (self.new ≡ self.old) }
+        ensures unchanged { OnErr result (self.new ≡ self.old) }
         ensures range { IsErrOf result Range ↔ AsksPastBound (sequence_of self.old) additional }
         ensures room { self.old.inline ≡ false → HasRoomFor (sequence_of self.old) additional → IsOk result }
     {
@@ -106,7 +106,7 @@ impl<T, A: Allocator> SingleOrVec<T, A> {
     where
         T: Drop,
         ensures ok { OnOk result (self.new ≡ single_with_room self.old additional) }
-        ensures err { OnErr result (self.new ≡ self.old) }
+        ensures unchanged { OnErr result (self.new ≡ self.old) }
         ensures range { IsErrOf result Range ↔ AsksPastBound (sequence_of self.old) additional }
         ensures room { self.old.inline ≡ false → HasRoomFor (sequence_of self.old) additional → IsOk result }
     {
@@ -157,7 +157,7 @@ impl<T, A: Allocator> SingleOrVec<T, A> {
         A: Clone,
         requires clones_are_equal { (x y : T) → T.is_clone x y → y ≡ x }
         ensures ok { IfOk result (λ list. list ≡ single_copied self.now) }
-        ensures err { IfErr result (λ error. error ≡ Memory) }
+        ensures memory { IfErr result (λ error. error ≡ Memory) }
     {
         let list = self.parts.list.copy()?;
         let slot = match &self.parts.slot {
@@ -177,7 +177,8 @@ impl<T, A: Allocator> SingleOrVec<T, A> {
     where
         T: Drop,
         ensures ok { IfOk result (λ list. list ≡ single_as_vec self) }
-        ensures err { IfErr result (λ refusal. (refusal.0 ≡ self) × (refusal.1 ≡ Memory)) }
+        ensures value_back { IfErr result (λ refusal. refusal.0 ≡ self) }
+        ensures memory { IfErr result (λ refusal. refusal.1 ≡ Memory) }
         ensures listed { self.inline ≡ false → IsOk result }
     {
         let SingleOrVec {
@@ -218,7 +219,7 @@ fn copy_of<T: Clone + Drop>(one: &ArrayVec<T, 1>) -> Result<ArrayVec<T, 1>, Allo
     requires clones_are_equal { (x y : T) → T.is_clone x y → y ≡ x }
     requires full { length one.now.items ≡ 1 }
     ensures ok { IfOk result (λ copy. copy.items ≡ one.now.items) }
-    ensures err { IfErr result (λ error. error ≡ Memory) }
+    ensures memory { IfErr result (λ error. error ≡ Memory) }
 {
     let Ok(item) = one.as_slice()[0].clone() else {
         return Err(AllocationError::Memory);

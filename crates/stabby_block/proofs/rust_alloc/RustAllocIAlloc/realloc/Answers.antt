@@ -48,7 +48,7 @@ returns-in-Err-clause-faults g c fault other =
     let refusal = c.in-Err.fault in
     let whole : resized_layout c.inner_block.result.layout c.in-Some.whole.size ≡ whole_layout l =
     ap (λ x. resized_layout x.layout c.in-Some.whole.size) c.inner_block.ensures ∙ ap (λ w. resized_layout (whole_layout block.layout) w.size) c.in-Some.ensures.some in
-    let alone = fault_alone (due (resized_layout c.inner_block.result.layout c.in-Some.whole.size)) c.inner_block.result c.in-Err.field-0-0 refusal c.in-Err.ensures.back c.in-Err.ensures.faults in
+    let alone = fault_alone (due (resized_layout c.inner_block.result.layout c.in-Some.whole.size)) c.inner_block.result c.in-Err.field-0-0 refusal c.in-Err.ensures.value_back c.in-Err.ensures.faults in
     let told = subst (λ x. (f : BlockFault) → f ≢ Memory → (refusal ≡ f → due x f) × (due x f → refusal ≡ f)) whole alone in
     let some : 0 < l.size = let not_zero = c.if-new_size-eq0.false in omega arith in
     subst (λ h. (IsErrOf {T = Block} {E = Block × BlockFault} (Err (block, refusal)) (block, fault) → stored_due (g.H.IAlloc.due h) l fault)
