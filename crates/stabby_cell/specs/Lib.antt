@@ -5,3 +5,6 @@ pub mod Inside
 pub mod Passes
 pub mod Turns
 pub mod Laws
+pub mod Values
+pub mod Reads
+pub mod Shared

@@ -81,6 +81,16 @@ impl<V> Older<V> {
         }
     }
 
+    // How many there are.
+    pub(crate) fn len(&self) -> u64
+        ensures { result ≡ length (items_in self.now) }
+    {
+        match &self.ring {
+            None => 0,
+            Some(ring) => ring.versions.len() as u64,
+        }
+    }
+
     pub(crate) fn destroy_empty(self)
         requires { items_in self ≡ [] }
     {

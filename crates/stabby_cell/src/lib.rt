@@ -3,21 +3,29 @@
 //! A [`TurnCell`] has one word, `2 * stamp + held`, and one slot with the last versions. Whoever takes the turn has them out
 //! of the slot, and gives them back or commits the next one. A [`Pass`] is what one caller has seen of the cell's history:
 //! its front is a prefix of the list of all entries committed so far. Passes are split for further callers and joined again.
+//!
+//! An [`AtomicArc`] is a cell of shared values.
 #![tactic(auto)]
 
+#[cfg(test)]
+mod arc_tests;
+mod atomic;
 mod cell;
 mod chronicle;
 mod fault;
 mod kept;
+mod kept_value;
 pub mod laws;
 mod pass;
 mod plays;
 mod protocol;
+mod shared_value;
 #[cfg(test)]
 mod tests;
 mod turn;
 mod view;
 
+pub use atomic::{ArcPass, AtomicArc, ExchangeFault, IsFault, Kept};
 pub use cell::TurnCell;
 pub use chronicle::Chronicle;
 pub use fault::CellFault;
