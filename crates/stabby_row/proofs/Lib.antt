@@ -1,0 +1,9 @@
+pub mod SumLemmas
+pub mod ChainLemmas
+pub mod ViewLemmas
+pub mod StepsKeepRule
+pub mod MovesKeepRule
+pub mod WalkLemmas
+pub mod InsertLemmas
+pub mod CallLemmas
+pub mod LawLemmas
