@@ -20,13 +20,9 @@ fn row_of_eight_words(rt: HostRuntime) -> Result<(), Fail> {
     );
     assert!(rt; row.insert_row(&mut pass, &[1, 2]).is_ok_and(|n| n == 0));
     assert!(rt; pass.seen() == 2);
-    let second = row
-        .entry(rt.alloc(), &mut pass, 1)
-        .map_err(|_| "memory")?;
+    let second = row.entry(rt.alloc(), &mut pass, 1).map_err(|_| "memory")?;
     assert!(rt; second.is_some_and(|t| t.is_empty()));
-    let third = row
-        .entry(rt.alloc(), &mut pass, 2)
-        .map_err(|_| "memory")?;
+    let third = row.entry(rt.alloc(), &mut pass, 2).map_err(|_| "memory")?;
     assert!(rt; third.is_none());
     Ok(())
 }
