@@ -1,0 +1,13 @@
+pub mod Again
+pub mod Begun
+pub mod Bounds
+pub mod Counts
+pub mod Decoded
+pub mod Heads
+pub mod Masks
+pub mod Pairs
+pub mod Same
+pub mod Spelling
+pub mod Steps
+pub mod Unread
+pub mod Written
