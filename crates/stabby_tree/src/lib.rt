@@ -4,11 +4,28 @@
 //! refused insert leaves it as it was and hands the element back, and a `clone` is an equal set of its own.
 #![tactic(auto)]
 
+mod copier;
+mod entry;
+mod few;
+mod insert;
 mod keyed;
+mod map;
+mod node;
+mod printing;
+mod probe;
+mod root;
+mod search;
 mod set;
+mod walk;
 
+pub use copier::{CloneCopier, Copier};
+pub use entry::Entry;
 pub use keyed::Keyed;
+pub use map::ArcBTreeMap;
+pub use probe::{KeyProbe, Probe};
 pub use set::ArcBTreeSet;
 
+#[cfg(test)]
+mod random_tests;
 #[cfg(test)]
 mod tests;

@@ -1,0 +1,67 @@
+//! Lookup in a node.
+
+ghost use Rattle.std.specs.Prelude.{◌≡◌, ℕ, ◌+◌, ◌*◌, ◌-◌, ◌<◌, ◌≤◌, option_copied};
+ghost use Rattle.stabby_tree.specs.Sets.{IsRising, found};
+
+use crate::keyed::Keyed;
+use crate::node::{Limit, Node};
+use crate::probe::Probe;
+use std::alloc::Allocator;
+use std::cmp::Ordering;
+
+/// The element with the probe's key, with at most so many comparisons as the entries of one path.
+pub fn search<'a, T: Keyed, A: Allocator, P: Limit, Q: Probe<T>>(
+    node: &'a Node<T, A, P>,
+    probe: &mut Q,
+) -> Option<&'a T>
+    requires rising { IsRising T.key_of T.Key.cmp node.now.0 }
+    requires countable { Q.count probe.old + (P.limit - 1) * (node.now.1 + 1) < 18446744073709551615 }
+    ensures value { option_copied result ≡ found T.key_of T.Key.cmp node.now.0 (Q.sought probe.old) }
+    ensures key { Q.sought probe.new ≡ Q.sought probe.old }
+    ensures count { Q.count probe.new ≤ Q.count probe.old + (P.limit - 1) * (node.now.1 + 1) }
+{
+    for at in 0..node.entries.len() {
+        let entry = node.entries.at(at);
+        match probe.compare(&entry.value) {
+            Ordering::Less => {}
+            Ordering::Equal => return Some(&entry.value),
+            Ordering::Greater => {
+                return match &entry.smaller {
+                    Some(child) => search(child, probe),
+                    None => None,
+                };
+            }
+        }
+    }
+    match &node.greater {
+        Some(child) => search(child, probe),
+        None => None,
+    }
+}
+
+/// The element with this key.
+pub fn look_up<'a, T: Keyed, A: Allocator, P: Limit>(
+    node: &'a Node<T, A, P>,
+    key: &T::Key,
+) -> Option<&'a T>
+    requires rising { IsRising T.key_of T.Key.cmp node.now.0 }
+    ensures value { option_copied result ≡ found T.key_of T.Key.cmp node.now.0 key.now }
+{
+    for at in 0..node.entries.len() {
+        let entry = node.entries.at(at);
+        match entry.value.key().cmp(key) {
+            Ordering::Less => {}
+            Ordering::Equal => return Some(&entry.value),
+            Ordering::Greater => {
+                return match &entry.smaller {
+                    Some(child) => look_up(child, key),
+                    None => None,
+                };
+            }
+        }
+    }
+    match &node.greater {
+        Some(child) => look_up(child, key),
+        None => None,
+    }
+}
