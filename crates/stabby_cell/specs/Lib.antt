@@ -8,3 +8,6 @@ pub mod Laws
 pub mod Values
 pub mod Reads
 pub mod Shared
+pub mod Replaced
+pub mod Visits
+pub mod Edits

@@ -4,7 +4,7 @@
 //! of the slot, and gives them back or commits the next one. A [`Pass`] is what one caller has seen of the cell's history:
 //! its front is a prefix of the list of all entries committed so far. Passes are split for further callers and joined again.
 //!
-//! An [`AtomicArc`] is a cell of shared values.
+//! An [`AtomicArc`] is a cell of shared values, an [`AtomicArcBTreeSet`] one of sets that closures edit.
 #![tactic(auto)]
 
 #[cfg(test)]
@@ -12,13 +12,21 @@ mod arc_tests;
 mod atomic;
 mod cell;
 mod chronicle;
+mod copy_at;
+mod edit;
 mod fault;
 mod kept;
 mod kept_value;
 pub mod laws;
+mod offer;
 mod pass;
 mod plays;
 mod protocol;
+mod replaced;
+#[cfg(test)]
+mod set_tests;
+mod set_version;
+mod shared_set;
 mod shared_value;
 #[cfg(test)]
 mod tests;
@@ -28,8 +36,11 @@ mod view;
 pub use atomic::{ArcPass, AtomicArc, ExchangeFault, IsFault, Kept};
 pub use cell::TurnCell;
 pub use chronicle::Chronicle;
+pub use edit::{EditFault, Edited};
 pub use fault::CellFault;
 pub use pass::Pass;
+pub use replaced::{Replaced, ReplacedCell};
+pub use shared_set::{AtomicArcBTreeSet, Set, SetPass};
 pub use stabby_layout::AllocationError;
 pub use turn::{Busy, Turn};
 pub use view::{NotedStep, StepKind};
