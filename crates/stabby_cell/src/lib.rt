@@ -1,13 +1,14 @@
 //! A cell whose value is replaced version by version, each time under one exclusive turn.
 //!
-//! A [`TurnCell`] has one word, `2 * stamp + held`, and one slot. Whoever takes the turn has the version out of the slot,
-//! and gives it back or commits the next one. A [`Pass`] is what one caller has seen of the cell's history: its front is a
-//! prefix of the list of all entries committed so far. Passes are split for further callers and joined again.
+//! A [`TurnCell`] has one word, `2 * stamp + held`, and one slot with the last versions. Whoever takes the turn has them out
+//! of the slot, and gives them back or commits the next one. A [`Pass`] is what one caller has seen of the cell's history:
+//! its front is a prefix of the list of all entries committed so far. Passes are split for further callers and joined again.
 #![tactic(auto)]
 
 mod cell;
 mod chronicle;
 mod fault;
+mod kept;
 pub mod laws;
 mod pass;
 mod plays;

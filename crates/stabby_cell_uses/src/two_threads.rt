@@ -83,7 +83,7 @@ pub fn count_in_two_threads<H: Threads + Wait + Sync>(
     count: u64,
 ) -> Result<Tally, AllocationError>
     ensures all { IfOk result (λ tally. tally.number ≡ tally.added) }
-    ensures err { IfErr result (λ error. error ≡ AllocationError.Memory) }
+    ensures memory { IfErr result (λ error. error ≡ AllocationError.Memory) }
 {
     match TurnCell::new(alloc, Counter { number: 0 }, 0) {
         Err((_, error)) => Err(error),

@@ -7,7 +7,9 @@ pub mod Tells
 pub mod Held
 pub mod Records
 pub mod Shared
+pub mod Loans
 pub mod SharedSlices
 pub mod SharedTexts
 pub mod BoxedLists
 pub mod SliceLoans
+pub mod SliceLends

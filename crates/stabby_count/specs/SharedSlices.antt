@@ -1,7 +1,7 @@
 -- What a contract says of the handles of shared slices. Each is a handle of a shared list with a capacity.
 use Rattle.std.specs.Prelude.{ℕ, List, Bool}
 use Rattle.stabby_vec.specs.Sequence.{Sequence, with_items}
-use Rattle.stabby_count.specs.Shared.{arc_value, arc_block, arc_record, IsSole, IsShared, IsLent, weak_value, weak_block, weak_record}
+use Rattle.stabby_count.specs.Shared.{arc_value, arc_block, arc_record, IsSole, IsShared, IsSameArc, IsSameWeak, IsLent, FindsOthers, weak_value, weak_block, weak_record}
 use Rattle.stabby_count.specs.declared.view.Note.{Note}
 use Rattle.stabby_count.specs.declared.slice.ArcSlice.{ArcSlice}
 use Rattle.stabby_count.specs.declared.slice.WeakSlice.{WeakSlice}
@@ -26,7 +26,15 @@ module _ {X : Type 0} where
   abbrev pub IsSharedSlice : ArcSlice X → Type 0
   IsSharedSlice a = IsShared a.shared
 
-  -- one read told whether a handle lends its list: one that did has the list that was written, and one that did not has its own
+  abbrev pub IsSameSlice : ArcSlice X → ArcSlice X → Type 0
+  IsSameSlice before after = IsSameArc before.shared after.shared
+
+  -- one look, which did not find the handle alone
+  abbrev pub SliceFindsOthers : ArcSlice X → ArcSlice X → Type 0
+  SliceFindsOthers before after = FindsOthers before.shared after.shared
+
+  -- one read told whether a handle lends its list: one that did has the list that was written, and one that did not has
+  -- its own
   abbrev pub IsLentList : ArcSlice X → ArcSlice X → Sequence X → Bool → Type 0
   IsLentList before after list lent = IsLent before.shared after.shared list lent
 
@@ -42,3 +50,6 @@ module _ {X : Type 0} where
 
   abbrev pub weak_slice_record : WeakSlice X → List Note
   weak_slice_record w = weak_record w.shared
+
+  abbrev pub IsSameWeakSlice : WeakSlice X → WeakSlice X → Type 0
+  IsSameWeakSlice before after = IsSameWeak before.shared after.shared

@@ -22,8 +22,8 @@ pub struct WeakSlice<T> {
 
 impl<T> ArcSlice<T> {
     ghost use Rattle.std.specs.Prelude.{◌≡◌, ◌<◌, ℕ, IsTrue, ◌↔◌, length, []};
-    ghost use Rattle.stabby_count.specs.SharedSlices.{slice_value, slice_items, slice_block, slice_record, IsSoleSlice};
-    ghost use Rattle.stabby_count.specs.Records.{AddsLook, ReadsAlone, strong_of, weak_of};
+    ghost use Rattle.stabby_count.specs.SharedSlices.{slice_items, slice_record, IsSoleSlice, IsSameSlice};
+    ghost use Rattle.stabby_count.specs.Records.{AddsLook, ReadsAlone, alone, strong_of, weak_of};
 
     /// The number of items.
     pub fn len(&self) -> usize
@@ -51,7 +51,7 @@ impl<T> ArcSlice<T> {
         ensures unique { ReadsAlone (slice_record self.old) (slice_record self.new) result }
         ensures sole { IsSoleSlice self.old → IsTrue result }
         ensures becomes_sole { IsTrue result → IsSoleSlice self.new }
-        ensures kept { (slice_value self.new ≡ slice_value self.old) × (slice_block self.new ≡ slice_block self.old) }
+        ensures kept { IsSameSlice self.old self.new }
     {
         self.shared.is_unique()
     }
@@ -61,7 +61,8 @@ impl<T> ArcSlice<T> {
         ensures count { (n : ℕ) × (result ≡ strong_of n) × AddsLook (slice_record self.old) (slice_record self.new) n }
         ensures at_least_one { 0 < result }
         ensures sole { IsSoleSlice self.old → (result ≡ 1) × IsSoleSlice self.new }
-        ensures kept { (slice_value self.new ≡ slice_value self.old) × (slice_block self.new ≡ slice_block self.old) }
+        ensures sole_word { IsSoleSlice self.old → AddsLook (slice_record self.old) (slice_record self.new) alone }
+        ensures kept { IsSameSlice self.old self.new }
     {
         self.shared.strong_count()
     }
@@ -71,16 +72,18 @@ impl<T> ArcSlice<T> {
         ensures count { (n : ℕ) × (result ≡ weak_of n) × AddsLook (slice_record self.old) (slice_record self.new) n }
         ensures at_least_one { 0 < result }
         ensures sole { IsSoleSlice self.old → (result ≡ 1) × IsSoleSlice self.new }
-        ensures kept { (slice_value self.new ≡ slice_value self.old) × (slice_block self.new ≡ slice_block self.old) }
+        ensures sole_word { IsSoleSlice self.old → AddsLook (slice_record self.old) (slice_record self.new) alone }
+        ensures kept { IsSameSlice self.old self.new }
     {
         self.shared.weak_count()
     }
 }
 
 impl<T> ArcSlice<T> {
-    ghost use Rattle.std.specs.Prelude.{◌≡◌, ◌≢◌, ℕ, [], IfOk, IfErr, OnOk, OnErr, IsOk, MatchResult};
-    ghost use Rattle.stabby_count.specs.SharedSlices.{slice_value, slice_items, slice_block, slice_record, IsSoleSlice, IsSharedSlice, weak_slice_value, weak_slice_block, weak_slice_record};
-    ghost use Rattle.stabby_count.specs.Records.{AddsLook, RaisesAfterLooks, Refuses, strong_of, weak_of, alone};
+    ghost use Rattle.std.specs.Prelude.{◌≡◌, [], IfOk, IfErr, OnOk, OnErr, IsOk};
+    ghost use Rattle.stabby_count.specs.SharedSlices.{slice_value, slice_block, slice_record, weak_slice_value, weak_slice_block, weak_slice_record, IsSoleSlice, IsSharedSlice, IsSameSlice, SliceFindsOthers};
+    ghost use Rattle.stabby_count.specs.Records.{AddsStep, RaisesAfterLooks, Refuses, alone, strong_of, weak_of};
+    ghost use Rattle.stabby_count.specs.declared.fault.CountFault.TheVariants.{Memory as NoMemory};
     ghost use Rattle.stabby_count.specs.declared.machine.Step.TheVariants.{Clone as CloneNote, Downgrade as DowngradeNote};
     ghost use Rattle.stabby_layout.specs.declared.error.AllocationError.TheVariants.{Memory};
 
@@ -104,9 +107,9 @@ impl<T> ArcSlice<T> {
     ///
     /// The handle comes back exactly where the exchange read a word that isn't one strong and one weak.
     pub fn try_into_vec(self) -> Result<Vec<T, Global>, ArcSlice<T>>
-        ensures value { MatchResult result (λ list. list ≡ slice_value self) (λ back. slice_value back ≡ slice_value self) }
-        ensures shared { IfErr result (λ back. (n : ℕ) × (n ≢ alone) × AddsLook (slice_record self) (slice_record back) n) }
-        ensures block { IfErr result (λ back. slice_block back ≡ slice_block self) }
+        ensures value { IfOk result (λ list. list ≡ slice_value self) }
+        ensures value_back { IfErr result (IsSameSlice self) }
+        ensures shared { IfErr result (SliceFindsOthers self) }
         ensures sole { IsSoleSlice self → IsOk result }
     {
         let ArcSlice { shared } = self;
@@ -120,12 +123,14 @@ impl<T> ArcSlice<T> {
     pub fn clone<H: Wait>(&mut self, rt: &H) -> Result<ArcSlice<T>, CountFault>
         ensures value { IfOk result (λ other. slice_value other ≡ slice_value self.old) }
         ensures block { IfOk result (λ other. slice_block other ≡ slice_block self.old) }
-        ensures added { IfOk result (λ other. RaisesAfterLooks CloneNote strong_of (slice_record self.old) (slice_record self.new)) }
+        ensures added { OnOk result (RaisesAfterLooks CloneNote strong_of (slice_record self.old) (slice_record self.new)) }
         ensures copied { IfOk result (λ other. slice_record other ≡ slice_record self.new) }
         ensures shares { IfOk result (λ other. IsSharedSlice self.new × IsSharedSlice other) }
         ensures stays_sole { IsSoleSlice self.old → OnErr result (IsSoleSlice self.new) }
+        ensures sole_word { IsSoleSlice self.old → OnOk result (AddsStep CloneNote (slice_record self.old) (slice_record self.new) alone) }
         ensures fault { IfErr result (Refuses strong_of (slice_record self.old) (slice_record self.new)) }
-        ensures kept { (slice_value self.new ≡ slice_value self.old) × (slice_block self.new ≡ slice_block self.old) }
+        ensures sole { IsSoleSlice self.old → IfErr result (λ fault. fault ≡ NoMemory) }
+        ensures kept { IsSameSlice self.old self.new }
     {
         match self.shared.clone(rt) {
             Ok(shared) => Ok(ArcSlice { shared }),
@@ -137,12 +142,14 @@ impl<T> ArcSlice<T> {
     pub fn downgrade<H: Wait>(&mut self, rt: &H) -> Result<WeakSlice<T>, CountFault>
         ensures value { IfOk result (λ weak. weak_slice_value weak ≡ slice_value self.old) }
         ensures block { IfOk result (λ weak. weak_slice_block weak ≡ slice_block self.old) }
-        ensures added { IfOk result (λ weak. RaisesAfterLooks DowngradeNote weak_of (slice_record self.old) (slice_record self.new)) }
+        ensures added { OnOk result (RaisesAfterLooks DowngradeNote weak_of (slice_record self.old) (slice_record self.new)) }
         ensures copied { IfOk result (λ weak. weak_slice_record weak ≡ slice_record self.new) }
         ensures shares { OnOk result (IsSharedSlice self.new) }
         ensures stays_sole { IsSoleSlice self.old → OnErr result (IsSoleSlice self.new) }
+        ensures sole_word { IsSoleSlice self.old → OnOk result (AddsStep DowngradeNote (slice_record self.old) (slice_record self.new) alone) }
         ensures fault { IfErr result (Refuses weak_of (slice_record self.old) (slice_record self.new)) }
-        ensures kept { (slice_value self.new ≡ slice_value self.old) × (slice_block self.new ≡ slice_block self.old) }
+        ensures sole { IsSoleSlice self.old → IfErr result (λ fault. fault ≡ NoMemory) }
+        ensures kept { IsSameSlice self.old self.new }
     {
         match self.shared.downgrade(rt) {
             Ok(shared) => Ok(WeakSlice { shared }),
@@ -177,23 +184,22 @@ impl<T: Copy> ArcSlice<T> {
 }
 
 impl<T> WeakSlice<T> {
-    ghost use Rattle.std.specs.Prelude.{◌≡◌, ◌<◌, ◌++◌, ◌∷◌, [], ℕ, List, IfOk, IfErr, IfSome, IfNone};
-    ghost use Rattle.stabby_count.specs.SharedSlices.{slice_value, slice_block, slice_record, weak_slice_value, weak_slice_block, weak_slice_record};
+    ghost use Rattle.std.specs.Prelude.{◌≡◌, ◌<◌, ◌++◌, ◌∷◌, [], IfOk, IfErr, IfSome, IfNone, OnOk, OnSome};
+    ghost use Rattle.stabby_count.specs.SharedSlices.{slice_value, slice_block, slice_record, weak_slice_value, weak_slice_block, weak_slice_record, IsSharedSlice, IsSameWeakSlice};
     ghost use Rattle.stabby_count.specs.Shared.{spent_block, spent_record, spent_word};
-    ghost use Rattle.stabby_count.specs.Records.{AddsLooks, AddsStep, RaisesAfterLooks, Refuses, RefusesTry, UpgradesAfterLooks, FindsNone, note, strong_of, weak_of};
-    ghost use Rattle.stabby_count.specs.declared.view.Note.{Note};
-    ghost use Rattle.stabby_count.specs.Handles.{count_limit};
-    ghost use Rattle.stabby_count.specs.declared.machine.Step.TheVariants.{Downgrade as DowngradeNote, Upgrade as UpgradeNote, EndWeak as EndNote};
+    ghost use Rattle.stabby_count.specs.Records.{RaisesAfterLooks, Refuses, RefusesTry, Upgrades, UpgradesAfterLooks, FindsNone, FindsNoneAfterLooks, note, strong_of, weak_of};
+    ghost use Rattle.stabby_count.specs.declared.machine.Step.TheVariants.{Downgrade as DowngradeNote, EndWeak as EndNote};
 
     /// A strong handle of the same slice, by one try. `None` comes only where the word read had no strong handle.
     pub fn try_upgrade(&mut self) -> Result<Option<ArcSlice<T>>, TryCountFault>
         ensures value { IfOk result (λ found. IfSome found (λ strong. slice_value strong ≡ weak_slice_value self.old)) }
         ensures block { IfOk result (λ found. IfSome found (λ strong. slice_block strong ≡ weak_slice_block self.old)) }
-        ensures added { IfOk result (λ found. IfSome found (λ strong. (n : ℕ) × (0 < strong_of n) × (strong_of n < count_limit) × AddsStep UpgradeNote (weak_slice_record self.old) (weak_slice_record self.new) n)) }
+        ensures added { IfOk result (λ found. OnSome found (Upgrades (weak_slice_record self.old) (weak_slice_record self.new))) }
         ensures copied { IfOk result (λ found. IfSome found (λ strong. slice_record strong ≡ weak_slice_record self.new)) }
+        ensures shares { IfOk result (λ found. IfSome found IsSharedSlice) }
         ensures none { IfOk result (λ found. IfNone found (FindsNone (weak_slice_record self.old) (weak_slice_record self.new))) }
         ensures fault { IfErr result (RefusesTry strong_of (weak_slice_record self.old) (weak_slice_record self.new)) }
-        ensures kept { (weak_slice_value self.new ≡ weak_slice_value self.old) × (weak_slice_block self.new ≡ weak_slice_block self.old) }
+        ensures kept { IsSameWeakSlice self.old self.new }
     {
         match self.shared.try_upgrade() {
             Ok(Some(shared)) => Ok(Some(ArcSlice { shared })),
@@ -208,11 +214,12 @@ impl<T> WeakSlice<T> {
     pub fn upgrade<H: Wait>(&mut self, rt: &H) -> Result<Option<ArcSlice<T>>, CountFault>
         ensures value { IfOk result (λ found. IfSome found (λ strong. slice_value strong ≡ weak_slice_value self.old)) }
         ensures block { IfOk result (λ found. IfSome found (λ strong. slice_block strong ≡ weak_slice_block self.old)) }
-        ensures added { IfOk result (λ found. IfSome found (λ strong. UpgradesAfterLooks (weak_slice_record self.old) (weak_slice_record self.new))) }
+        ensures added { IfOk result (λ found. OnSome found (UpgradesAfterLooks (weak_slice_record self.old) (weak_slice_record self.new))) }
         ensures copied { IfOk result (λ found. IfSome found (λ strong. slice_record strong ≡ weak_slice_record self.new)) }
-        ensures none { IfOk result (λ found. IfNone found ((middle : List Note) × AddsLooks (weak_slice_record self.old) middle × FindsNone middle (weak_slice_record self.new))) }
+        ensures shares { IfOk result (λ found. IfSome found IsSharedSlice) }
+        ensures none { IfOk result (λ found. IfNone found (FindsNoneAfterLooks (weak_slice_record self.old) (weak_slice_record self.new))) }
         ensures fault { IfErr result (Refuses strong_of (weak_slice_record self.old) (weak_slice_record self.new)) }
-        ensures kept { (weak_slice_value self.new ≡ weak_slice_value self.old) × (weak_slice_block self.new ≡ weak_slice_block self.old) }
+        ensures kept { IsSameWeakSlice self.old self.new }
     {
         match self.shared.upgrade(rt) {
             Ok(Some(shared)) => Ok(Some(ArcSlice { shared })),
@@ -225,10 +232,10 @@ impl<T> WeakSlice<T> {
     pub fn clone<H: Wait>(&mut self, rt: &H) -> Result<WeakSlice<T>, CountFault>
         ensures value { IfOk result (λ other. weak_slice_value other ≡ weak_slice_value self.old) }
         ensures block { IfOk result (λ other. weak_slice_block other ≡ weak_slice_block self.old) }
-        ensures added { IfOk result (λ other. RaisesAfterLooks DowngradeNote weak_of (weak_slice_record self.old) (weak_slice_record self.new)) }
+        ensures added { OnOk result (RaisesAfterLooks DowngradeNote weak_of (weak_slice_record self.old) (weak_slice_record self.new)) }
         ensures copied { IfOk result (λ other. weak_slice_record other ≡ weak_slice_record self.new) }
         ensures fault { IfErr result (Refuses weak_of (weak_slice_record self.old) (weak_slice_record self.new)) }
-        ensures kept { (weak_slice_value self.new ≡ weak_slice_value self.old) × (weak_slice_block self.new ≡ weak_slice_block self.old) }
+        ensures kept { IsSameWeakSlice self.old self.new }
     {
         match self.shared.clone(rt) {
             Ok(shared) => Ok(WeakSlice { shared }),

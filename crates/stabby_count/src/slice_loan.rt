@@ -30,17 +30,15 @@ fn held_items<T, A: Allocator, B: Allocator>(held: &mut Option<RawBox<Vec<T, A>,
 }
 
 impl<T> Arc<Vec<T, Global>> {
-    ghost use Rattle.std.specs.Borrow.{Array, Lends, sem};
+    ghost use Rattle.std.specs.Borrow.{sem};
     ghost use Rattle.std.specs.Prelude.{◌≡◌, true, is_some};
-    ghost use Rattle.stabby_count.specs.BoxedLists.{list_row};
     ghost use Rattle.stabby_count.specs.Shared.{arc_value};
-    ghost use Rattle.stabby_count.specs.SliceLoans.{with_own_items};
-    ghost use Rattle.stabby_count.specs.contracts.strong.Arc.{the_row};
+    ghost use Rattle.stabby_count.specs.SliceLends.{own_lends_items};
 
     // The items, while the list is in a box of the handle's own.
     fn own_items(&mut self) -> &mut [T]
         requires { is_some self.old.own ≡ true }
-        ensures* writes_back { sem 𝓛 (Lends (the_row (list_row T.row)) (Array T.row 0) self.entry result (with_own_items self.old)) }
+        ensures* writes_back { sem 𝓛 (own_lends_items T.row self.entry result) }
         ensures value { result.now ≡ (arc_value self.old).items }
     {
         held_items(&mut self.own)
@@ -48,13 +46,11 @@ impl<T> Arc<Vec<T, Global>> {
 }
 
 impl<T> ArcSlice<T> {
-    ghost use Rattle.std.specs.Borrow.{Array, Lends, LendsSo, sem};
+    ghost use Rattle.std.specs.Borrow.{sem};
     ghost use Rattle.std.specs.Prelude.{◌≡◌, IfSome, IsTrue, true, is_some};
-    ghost use Rattle.stabby_count.specs.BoxedLists.{list_row};
     ghost use Rattle.stabby_count.specs.Records.{ReadsAlone};
-    ghost use Rattle.stabby_count.specs.SharedSlices.{slice_value, slice_items, slice_block, slice_record, IsSoleSlice, IsLentList, IsLentSlice};
-    ghost use Rattle.stabby_count.specs.SliceLoans.{with_slice_items};
-    ghost use Rattle.stabby_count.specs.contracts.slice.ArcSlice.{the_row};
+    ghost use Rattle.stabby_count.specs.SharedSlices.{slice_value, slice_items, slice_record, IsSoleSlice, IsSameSlice};
+    ghost use Rattle.stabby_count.specs.SliceLends.{slice_lends_own, slice_lends_list, slice_lends_items};
 
     // One read. Where it is of one strong and one weak, the handle has its list in a box.
     fn seize(&mut self) -> bool
@@ -62,7 +58,7 @@ impl<T> ArcSlice<T> {
         ensures boxed { is_some self.new.shared.own ≡ result }
         ensures sole { IsSoleSlice self.old → IsTrue result }
         ensures becomes_sole { IsTrue result → IsSoleSlice self.new }
-        ensures kept { (slice_value self.new ≡ slice_value self.old) × (slice_block self.new ≡ slice_block self.old) }
+        ensures kept { IsSameSlice self.old self.new }
     {
         self.shared.seize()
     }
@@ -70,7 +66,7 @@ impl<T> ArcSlice<T> {
     // The items, while the list is in a box of the handle's own.
     fn own_items(&mut self) -> &mut [T]
         requires { is_some self.old.shared.own ≡ true }
-        ensures* writes_back { sem 𝓛 (Lends (the_row T.row) (Array T.row 0) self.entry result (with_slice_items self.old)) }
+        ensures* writes_back { sem 𝓛 (slice_lends_own T.row self.entry result) }
         ensures value { result.now ≡ slice_items self.old }
     {
         self.shared.own_items()
@@ -81,7 +77,7 @@ impl<T> ArcSlice<T> {
     /// `None` comes as for `as_slice_mut`. What is written through the reference is the slice of all later
     /// handles, with its capacity; a caller's proof learns it, as it can't of `as_slice_mut`.
     pub fn get_mut(&mut self) -> Option<&mut Vec<T, Global>>
-        ensures* writes_back { sem 𝓛 (LendsSo (the_row T.row) (list_row T.row) self.entry result (λ n w. IsLentList self.old n w (is_some result)) (λ n. IsLentList self.old n (slice_value self.old) (is_some result))) }
+        ensures* writes_back { sem 𝓛 (slice_lends_list T.row self.entry result) }
         ensures value { IfSome result (λ r. r.now ≡ slice_value self.old) }
         ensures sole { IsSoleSlice self.old → is_some result ≡ true }
     {
@@ -93,7 +89,7 @@ impl<T> ArcSlice<T> {
     /// `None` comes exactly where the word read isn't one strong and one weak. What is written through
     /// the reference is what all later handles read. The number of items and the capacity stay.
     pub fn as_slice_mut(&mut self) -> Option<&mut [T]>
-        ensures* writes_back { sem 𝓛 (LendsSo (the_row T.row) (Array T.row 0) self.entry result (λ n w. IsLentSlice self.old n w (is_some result)) (λ n. IsLentSlice self.old n (slice_items self.old) (is_some result))) }
+        ensures* writes_back { sem 𝓛 (slice_lends_items T.row self.entry result) }
         ensures value { IfSome result (λ r. r.now ≡ slice_items self.old) }
         ensures sole { IsSoleSlice self.old → is_some result ≡ true }
     {

@@ -43,8 +43,8 @@ pub struct Arc<T> {
 
 impl<T> Arc<T> {
     ghost use Rattle.std.specs.Prelude.{◌≡◌, ◌==◌, ◌<◌, ◌≤◌, ℕ, IsTrue, true};
-    ghost use Rattle.stabby_count.specs.Shared.{arc_value, arc_block, arc_record, IsSole};
-    ghost use Rattle.stabby_count.specs.Records.{AddsLook, ReadsAlone, strong_of, weak_of};
+    ghost use Rattle.stabby_count.specs.Shared.{arc_value, arc_record, IsSole, IsSameArc};
+    ghost use Rattle.stabby_count.specs.Records.{AddsLook, ReadsAlone, strong_of, weak_of, alone};
 
     fn get(&self) -> &T
         ensures { result.now ≡ arc_value self.now }
@@ -60,7 +60,8 @@ impl<T> Arc<T> {
         ensures count { (n : ℕ) × (result ≡ strong_of n) × AddsLook (arc_record self.old) (arc_record self.new) n }
         ensures at_least_one { 0 < result }
         ensures sole { IsSole self.old → (result ≡ 1) × IsSole self.new }
-        ensures kept { (arc_value self.new ≡ arc_value self.old) × (arc_block self.new ≡ arc_block self.old) }
+        ensures sole_word { IsSole self.old → AddsLook (arc_record self.old) (arc_record self.new) alone }
+        ensures kept { IsSameArc self.old self.new }
     {
         self.block.look::<Look>(&mut self.seat) / ONE_STRONG
     }
@@ -70,7 +71,8 @@ impl<T> Arc<T> {
         ensures count { (n : ℕ) × (result ≡ weak_of n) × AddsLook (arc_record self.old) (arc_record self.new) n }
         ensures at_least_one { 0 < result }
         ensures sole { IsSole self.old → (result ≡ 1) × IsSole self.new }
-        ensures kept { (arc_value self.new ≡ arc_value self.old) × (arc_block self.new ≡ arc_block self.old) }
+        ensures sole_word { IsSole self.old → AddsLook (arc_record self.old) (arc_record self.new) alone }
+        ensures kept { IsSameArc self.old self.new }
     {
         self.block.look::<Look>(&mut self.seat) % ONE_STRONG
     }
@@ -80,7 +82,7 @@ impl<T> Arc<T> {
         ensures unique { ReadsAlone (arc_record self.old) (arc_record self.new) result }
         ensures sole { IsSole self.old → IsTrue result }
         ensures becomes_sole { IsTrue result → IsSole self.new }
-        ensures kept { (arc_value self.new ≡ arc_value self.old) × (arc_block self.new ≡ arc_block self.old) }
+        ensures kept { IsSameArc self.old self.new }
     {
         self.block.look::<LookSole>(&mut self.seat) == ALONE
     }
@@ -102,12 +104,11 @@ impl<T> Deref for Arc<T> {
 }
 
 impl<T> Arc<T> {
-    ghost use Rattle.std.specs.Borrow.{LendsSo, sem};
-    ghost use Rattle.std.specs.Prelude.{◌≡◌, ◌≢◌, ◌==◌, ◌<◌, ℕ, IsTrue, IfSome, MatchOption, true, false, is_some};
-    ghost use Rattle.stabby_count.specs.Held.{held_or};
-    ghost use Rattle.stabby_count.specs.Shared.{arc_value, arc_block, arc_record, IsSole, IsLent};
+    ghost use Rattle.std.specs.Borrow.{sem};
+    ghost use Rattle.std.specs.Prelude.{◌≡◌, IsTrue, IfSome, true, is_some};
+    ghost use Rattle.stabby_count.specs.Loans.{own_lends, arc_lends};
+    ghost use Rattle.stabby_count.specs.Shared.{arc_value, arc_record, IsSole, IsSameArc};
     ghost use Rattle.stabby_count.specs.Records.{ReadsAlone};
-    ghost use Rattle.stabby_count.specs.contracts.strong.Arc.{the_row};
 
     // One read. Where it is of one strong and one weak, the handle has its value in a box.
     pub(crate) fn seize(&mut self) -> bool
@@ -115,7 +116,7 @@ impl<T> Arc<T> {
         ensures boxed { is_some self.new.own ≡ result }
         ensures sole { IsSole self.old → IsTrue result }
         ensures becomes_sole { IsTrue result → IsSole self.new }
-        ensures kept { (arc_value self.new ≡ arc_value self.old) × (arc_block self.new ≡ arc_block self.old) }
+        ensures kept { IsSameArc self.old self.new }
     {
         if self.own.is_some() {
             let word = self.block.look::<LookSole>(&mut self.seat);
@@ -135,8 +136,9 @@ impl<T> Arc<T> {
     }
 
     fn lend(&mut self) -> Option<&mut T>
-        ensures* writes_back { sem 𝓛 (LendsSo (the_row T.row) T.row self.entry result (λ n w. (is_some n.own ≡ is_some self.old.own) × (held_or n.own (λ b. b.value) w ≡ w) × (n.seat ≡ self.old.seat)) (λ n. (n.own ≡ self.old.own) × (n.permission ≡ self.old.permission) × (n.seat ≡ self.old.seat))) }
-        ensures value { MatchOption result (is_some self.old.own ≡ false) (λ r. (is_some self.old.own ≡ true) × (r.now ≡ arc_value self.old)) }
+        ensures* writes_back { sem 𝓛 (own_lends T.row self.entry result) }
+        ensures boxed { is_some result ≡ is_some self.old.own }
+        ensures value { IfSome result (λ r. r.now ≡ arc_value self.old) }
     {
         match &mut self.own {
             Some(boxed) => Some(boxed.get_mut()),
@@ -149,7 +151,7 @@ impl<T> Arc<T> {
     /// `None` comes exactly where the word read isn't one strong and one weak. What is written through
     /// the reference is the value of all later handles.
     pub fn get_mut(&mut self) -> Option<&mut T>
-        ensures* writes_back { sem 𝓛 (LendsSo (the_row T.row) T.row self.entry result (λ n w. IsLent self.old n w (is_some result)) (λ n. IsLent self.old n (arc_value self.old) (is_some result))) }
+        ensures* writes_back { sem 𝓛 (arc_lends T.row self.entry result) }
         ensures value { IfSome result (λ r. r.now ≡ arc_value self.old) }
         ensures sole { IsSole self.old → is_some result ≡ true }
     {
@@ -158,10 +160,9 @@ impl<T> Arc<T> {
 }
 
 impl<T> Arc<T> {
-    ghost use Rattle.std.specs.Prelude.{◌≡◌, ◌<◌, ◌+◌, ℕ, IfOk, IfErr, OnOk, OnErr, MatchResult, None};
-    ghost use Rattle.stabby_count.specs.Shared.{arc_value, arc_block, arc_record, weak_value, weak_block, weak_record, IsSole, IsShared};
-    ghost use Rattle.stabby_count.specs.Records.{AddsStep, RefusesTry, strong_of, weak_of};
-    ghost use Rattle.stabby_count.specs.Handles.{count_limit};
+    ghost use Rattle.std.specs.Prelude.{◌≡◌, IfOk, IfErr, OnOk, OnErr, None};
+    ghost use Rattle.stabby_count.specs.Shared.{arc_value, arc_block, arc_record, weak_value, weak_block, weak_record, IsSole, IsShared, IsSameArc};
+    ghost use Rattle.stabby_count.specs.Records.{AddsStep, Raises, RefusesTry, alone, strong_of, weak_of};
     ghost use Rattle.stabby_count.specs.declared.machine.Step.TheVariants.{Clone as CloneNote, Downgrade as DowngradeNote};
     ghost use Rattle.stabby_count.specs.declared.fault.TryCountFault.TheVariants.{Memory};
 
@@ -184,13 +185,14 @@ impl<T> Arc<T> {
     pub fn try_clone(&mut self) -> Result<Arc<T>, TryCountFault>
         ensures value { IfOk result (λ other. arc_value other ≡ arc_value self.old) }
         ensures block { IfOk result (λ other. arc_block other ≡ arc_block self.old) }
-        ensures added { IfOk result (λ other. (n : ℕ) × (strong_of n < count_limit) × AddsStep CloneNote (arc_record self.old) (arc_record self.new) n) }
+        ensures added { OnOk result (Raises CloneNote strong_of (arc_record self.old) (arc_record self.new)) }
         ensures copied { IfOk result (λ other. arc_record other ≡ arc_record self.new) }
         ensures shares { IfOk result (λ other. IsShared self.new × IsShared other) }
         ensures stays_sole { IsSole self.old → OnErr result (IsSole self.new) }
+        ensures sole_word { IsSole self.old → OnOk result (AddsStep CloneNote (arc_record self.old) (arc_record self.new) alone) }
         ensures fault { IfErr result (RefusesTry strong_of (arc_record self.old) (arc_record self.new)) }
         ensures sole { IsSole self.old → IfErr result (λ fault. fault ≡ Memory) }
-        ensures kept { (arc_value self.new ≡ arc_value self.old) × (arc_block self.new ≡ arc_block self.old) }
+        ensures kept { IsSameArc self.old self.new }
     {
         self.settle();
         let Ok(block) = Block::try_clone(&self.block) else {
@@ -224,13 +226,14 @@ impl<T> Arc<T> {
     pub fn try_downgrade(&mut self) -> Result<Weak<T>, TryCountFault>
         ensures value { IfOk result (λ weak. weak_value weak ≡ arc_value self.old) }
         ensures block { IfOk result (λ weak. weak_block weak ≡ arc_block self.old) }
-        ensures added { IfOk result (λ weak. (n : ℕ) × (weak_of n < count_limit) × AddsStep DowngradeNote (arc_record self.old) (arc_record self.new) n) }
+        ensures added { OnOk result (Raises DowngradeNote weak_of (arc_record self.old) (arc_record self.new)) }
         ensures copied { IfOk result (λ weak. weak_record weak ≡ arc_record self.new) }
         ensures shares { OnOk result (IsShared self.new) }
         ensures stays_sole { IsSole self.old → OnErr result (IsSole self.new) }
+        ensures sole_word { IsSole self.old → OnOk result (AddsStep DowngradeNote (arc_record self.old) (arc_record self.new) alone) }
         ensures fault { IfErr result (RefusesTry weak_of (arc_record self.old) (arc_record self.new)) }
         ensures sole { IsSole self.old → IfErr result (λ fault. fault ≡ Memory) }
-        ensures kept { (arc_value self.new ≡ arc_value self.old) × (arc_block self.new ≡ arc_block self.old) }
+        ensures kept { IsSameArc self.old self.new }
     {
         self.settle();
         let Ok(block) = Block::try_clone(&self.block) else {
@@ -259,20 +262,23 @@ impl<T> Arc<T> {
 
 impl<T> Arc<T> {
     ghost use Rattle.std.specs.Prelude.{◌≡◌, IfOk, IfErr, OnOk, OnErr};
-    ghost use Rattle.stabby_count.specs.Shared.{arc_value, arc_block, arc_record, weak_value, weak_block, weak_record, IsSole, IsShared};
-    ghost use Rattle.stabby_count.specs.Records.{RaisesAfterLooks, Refuses, strong_of, weak_of};
+    ghost use Rattle.stabby_count.specs.Shared.{arc_value, arc_block, arc_record, weak_value, weak_block, weak_record, IsSole, IsShared, IsSameArc};
+    ghost use Rattle.stabby_count.specs.Records.{AddsStep, RaisesAfterLooks, Refuses, alone, strong_of, weak_of};
     ghost use Rattle.stabby_count.specs.declared.machine.Step.TheVariants.{Clone as CloneNote, Downgrade as DowngradeNote};
+    ghost use Rattle.stabby_count.specs.declared.fault.CountFault.TheVariants.{Memory};
 
     /// One more strong handle of the same value. It tries again where another handle was in the way.
     pub fn clone<H: Wait>(&mut self, rt: &H) -> Result<Arc<T>, CountFault>
         ensures value { IfOk result (λ other. arc_value other ≡ arc_value self.old) }
         ensures block { IfOk result (λ other. arc_block other ≡ arc_block self.old) }
-        ensures added { IfOk result (λ other. RaisesAfterLooks CloneNote strong_of (arc_record self.old) (arc_record self.new)) }
+        ensures added { OnOk result (RaisesAfterLooks CloneNote strong_of (arc_record self.old) (arc_record self.new)) }
         ensures copied { IfOk result (λ other. arc_record other ≡ arc_record self.new) }
         ensures shares { IfOk result (λ other. IsShared self.new × IsShared other) }
         ensures stays_sole { IsSole self.old → OnErr result (IsSole self.new) }
+        ensures sole_word { IsSole self.old → OnOk result (AddsStep CloneNote (arc_record self.old) (arc_record self.new) alone) }
         ensures fault { IfErr result (Refuses strong_of (arc_record self.old) (arc_record self.new)) }
-        ensures kept { (arc_value self.new ≡ arc_value self.old) × (arc_block self.new ≡ arc_block self.old) }
+        ensures sole { IsSole self.old → IfErr result (λ fault. fault ≡ Memory) }
+        ensures kept { IsSameArc self.old self.new }
     {
         for _ in rt.forever() {
             match self.try_clone() {
@@ -294,12 +300,14 @@ impl<T> Arc<T> {
     pub fn downgrade<H: Wait>(&mut self, rt: &H) -> Result<Weak<T>, CountFault>
         ensures value { IfOk result (λ weak. weak_value weak ≡ arc_value self.old) }
         ensures block { IfOk result (λ weak. weak_block weak ≡ arc_block self.old) }
-        ensures added { IfOk result (λ weak. RaisesAfterLooks DowngradeNote weak_of (arc_record self.old) (arc_record self.new)) }
+        ensures added { OnOk result (RaisesAfterLooks DowngradeNote weak_of (arc_record self.old) (arc_record self.new)) }
         ensures copied { IfOk result (λ weak. weak_record weak ≡ arc_record self.new) }
         ensures shares { OnOk result (IsShared self.new) }
         ensures stays_sole { IsSole self.old → OnErr result (IsSole self.new) }
+        ensures sole_word { IsSole self.old → OnOk result (AddsStep DowngradeNote (arc_record self.old) (arc_record self.new) alone) }
         ensures fault { IfErr result (Refuses weak_of (arc_record self.old) (arc_record self.new)) }
-        ensures kept { (arc_value self.new ≡ arc_value self.old) × (arc_block self.new ≡ arc_block self.old) }
+        ensures sole { IsSole self.old → IfErr result (λ fault. fault ≡ Memory) }
+        ensures kept { IsSameArc self.old self.new }
     {
         for _ in rt.forever() {
             match self.try_downgrade() {
@@ -346,10 +354,9 @@ fn take_value<T>(
 }
 
 impl<T> Arc<T> {
-    ghost use Rattle.std.specs.Prelude.{◌≡◌, ◌≢◌, ◌↔◌, ◌<◌, ◌++◌, ◌∷◌, [], ℕ, IfOk, IfErr, IsOk, MatchResult, None};
-    ghost use Rattle.stabby_count.specs.Shared.{arc_value, arc_block, arc_record, spent_block, spent_record, spent_word, IsSole};
-    ghost use Rattle.stabby_count.specs.Records.{AddsLook, note, strong_of, alone};
-    ghost use Rattle.stabby_count.specs.declared.machine.Step.TheVariants.{EndStrong as EndNote};
+    ghost use Rattle.std.specs.Prelude.{◌≡◌, ◌↔◌, [], ℕ, IfOk, IfErr, IsOk, None};
+    ghost use Rattle.stabby_count.specs.Shared.{arc_value, arc_record, spent_record, spent_word, record_after_end, IsSole, IsSameArc, EndsAt, LeavesOthers, FindsOthers};
+    ghost use Rattle.stabby_count.specs.Records.{AddsLook, alone};
     ghost use Rattle.stabby_layout.specs.declared.error.AllocationError.TheVariants.{Memory};
 
     /// Shares a value. The handle is sole, and its record empty.
@@ -385,10 +392,10 @@ impl<T> Arc<T> {
     // The end of a handle whose value is in the block, and the word that its step read.
     fn finish(self) -> (Result<T, Spent>, u64)
         requires { self.own ≡ None }
-        ensures exactly { IsOk result.0 ↔ (strong_of result.1 ≡ 1) }
+        ensures exactly { EndsAt result.0 result.1 }
         ensures value { IfOk result.0 (λ value. value ≡ arc_value self) }
-        ensures spent { IfErr result.0 (λ spent. (1 < strong_of (spent_word spent)) × (spent_block spent ≡ arc_block self) × (spent_word spent ≡ result.1)) }
-        ensures added { IfErr result.0 (λ spent. spent_record spent ≡ arc_record self ++ note EndNote (spent_word spent) ∷ []) }
+        ensures spent { IfErr result.0 (LeavesOthers self) }
+        ensures added { IfErr result.0 (λ spent. spent_record spent ≡ record_after_end self (spent_word spent)) }
         ensures sole { IsSole self → IsOk result.0 }
     {
         let Arc {
@@ -409,9 +416,10 @@ impl<T> Arc<T> {
 
     /// Ends the handle by one step. The value comes exactly where that step read one strong.
     pub fn end(self) -> Result<T, Spent>
+        ensures exactly { (word : ℕ) × EndsAt result word }
         ensures value { IfOk result (λ value. value ≡ arc_value self) }
-        ensures spent { IfErr result (λ spent. (1 < strong_of (spent_word spent)) × (spent_block spent ≡ arc_block self)) }
-        ensures added { IfErr result (λ spent. spent_record spent ≡ arc_record self ++ note EndNote (spent_word spent) ∷ []) }
+        ensures spent { IfErr result (LeavesOthers self) }
+        ensures added { IfErr result (λ spent. spent_record spent ≡ record_after_end self (spent_word spent)) }
         ensures sole { IsSole self → IsOk result }
     {
         let mut whole = self;
@@ -424,9 +432,9 @@ impl<T> Arc<T> {
     fn end_sole(self) -> (Result<T, Arc<T>>, u64)
         requires { self.own ≡ None }
         ensures exactly { IsOk result.0 ↔ (result.1 ≡ alone) }
-        ensures value { MatchResult result.0 (λ value. value ≡ arc_value self) (λ back. arc_value back ≡ arc_value self) }
+        ensures value { IfOk result.0 (λ value. value ≡ arc_value self) }
+        ensures value_back { IfErr result.0 (IsSameArc self) }
         ensures shared { IfErr result.0 (λ back. AddsLook (arc_record self) (arc_record back) result.1) }
-        ensures block { IfErr result.0 (λ back. arc_block back ≡ arc_block self) }
         ensures sole { IsSole self → IsOk result.0 }
     {
         let Arc {
@@ -455,9 +463,9 @@ impl<T> Arc<T> {
     ///
     /// The handle comes back exactly where the exchange read a word that isn't one strong and one weak.
     pub fn try_into_inner(self) -> Result<T, Arc<T>>
-        ensures value { MatchResult result (λ value. value ≡ arc_value self) (λ back. arc_value back ≡ arc_value self) }
-        ensures shared { IfErr result (λ back. (n : ℕ) × (n ≢ alone) × AddsLook (arc_record self) (arc_record back) n) }
-        ensures block { IfErr result (λ back. arc_block back ≡ arc_block self) }
+        ensures value { IfOk result (λ value. value ≡ arc_value self) }
+        ensures value_back { IfErr result (IsSameArc self) }
+        ensures shared { IfErr result (FindsOthers self) }
         ensures sole { IsSole self → IsOk result }
     {
         let mut whole = self;
@@ -497,16 +505,17 @@ impl<T> Arc<T> {
 }
 
 impl<T: Clone + Drop> Arc<T> {
-    ghost use Rattle.std.specs.Borrow.{LendsSoOk, sem};
-    ghost use Rattle.std.specs.Prelude.{◌≡◌, ◌⊎◌, ℕ, IfOk, IfErr, IsOk, OnErr, OnOk, MatchResult, is_some, true, false};
-    ghost use Rattle.stabby_count.specs.Held.{held_or};
-    ghost use Rattle.stabby_count.specs.Shared.{arc_value, arc_block, arc_record, IsSole, PartsWays, FindsOthers};
-    ghost use Rattle.stabby_count.specs.contracts.strong.Arc.{the_row};
+    ghost use Rattle.std.specs.Borrow.{sem};
+    ghost use Rattle.std.specs.Prelude.{◌≡◌, ◌⊎◌, ◌↔◌, IfOk, IfErr, IfSome, IfNone, IsOk, OnErr, OnOk, is_some, true};
+    ghost use Rattle.stabby_count.specs.Loans.{own_lends_ok, arc_lends_alone};
+    ghost use Rattle.stabby_count.specs.Shared.{arc_value, IsSole, IsSameArc, StaysAlone, PartsWays, EndsAfterLook, FindsOthers};
     ghost use Rattle.stabby_layout.specs.declared.error.AllocationError.TheVariants.{Memory};
 
     fn lend_owned(&mut self) -> Result<&mut T, AllocationError>
-        ensures* writes_back { sem 𝓛 (LendsSoOk (the_row T.row) T.row self.entry result (λ n w. (held_or n.own (λ b. b.value) w ≡ w) × (is_some n.own ≡ is_some self.old.own) × (n.seat ≡ self.old.seat)) (λ n. (n.own ≡ self.old.own) × (n.permission ≡ self.old.permission) × (n.seat ≡ self.old.seat))) }
-        ensures value { MatchResult result (λ r. (is_some self.old.own ≡ true) × (r.now ≡ arc_value self.old)) (λ error. (is_some self.old.own ≡ false) × (error ≡ Memory)) }
+        ensures* writes_back { sem 𝓛 (own_lends_ok T.row self.entry result) }
+        ensures boxed { IsOk result ↔ (is_some self.old.own ≡ true) }
+        ensures value { IfOk result (λ r. r.now ≡ arc_value self.old) }
+        ensures memory { IfErr result (λ error. error ≡ Memory) }
     {
         match &mut self.own {
             Some(boxed) => Ok(boxed.get_mut()),
@@ -514,27 +523,29 @@ impl<T: Clone + Drop> Arc<T> {
         }
     }
 
-    // A handle of its own, where the value was shared.
-    fn part_ways(&mut self, alloc: Global) -> Result<(), AllocationError>
+    // A handle of its own, where the value was shared, and then what the end of the handle before it gave.
+    fn part_ways(&mut self, alloc: Global) -> Result<Option<Result<T, Spent>>, AllocationError>
         ensures own { OnOk result (is_some self.new.own ≡ true) }
         ensures sole { OnOk result (IsSole self.new) }
         ensures value { OnOk result ((arc_value self.new ≡ arc_value self.old) ⊎ T.is_clone (arc_value self.old) (arc_value self.new)) }
         ensures parted { OnOk result (PartsWays T.is_clone self.old self.new (arc_value self.new)) }
-        ensures was_sole { IsSole self.old → OnOk result ((arc_value self.new ≡ arc_value self.old) × (arc_block self.new ≡ arc_block self.old)) }
-        ensures unchanged { OnErr result ((arc_value self.new ≡ arc_value self.old) × (arc_block self.new ≡ arc_block self.old)) }
+        ensures stayed { IfOk result (λ ended. IfNone ended (StaysAlone self.old self.new (arc_value self.new))) }
+        ensures ended { IfOk result (λ ended. IfSome ended (EndsAfterLook self.old)) }
+        ensures was_sole { IsSole self.old → OnOk result (IsSameArc self.old self.new) }
+        ensures unchanged { OnErr result (IsSameArc self.old self.new) }
         ensures found_others { OnErr result (FindsOthers self.old self.new) }
         ensures memory { IfErr result (λ error. error ≡ Memory) }
         ensures sole_succeeds { IsSole self.old → IsOk result }
     {
         if self.seize() {
-            return Ok(());
+            return Ok(None);
         }
         let value = self.get().clone()?;
         match Arc::try_new_in(alloc, value) {
             Ok(fresh) => {
-                drop(mem::replace(self, fresh));
+                let ended = mem::replace(self, fresh).end();
                 self.seize();
-                Ok(())
+                Ok(Some(ended))
             }
             Err((value, error)) => {
                 drop(value);
@@ -546,15 +557,17 @@ impl<T: Clone + Drop> Arc<T> {
     /// The value to be changed, by a handle that is the only one from then on.
     ///
     /// Where the word read isn't one strong and one weak, the value is cloned into a new block and the old
-    /// handle ends. A refusal leaves the handle and its value as they were.
+    /// handle ends; a value that its end gave is dropped. A refusal leaves the handle and its value as they
+    /// were.
     pub fn make_mut(&mut self, alloc: Global) -> Result<&mut T, AllocationError>
-        ensures* writes_back { sem 𝓛 (LendsSoOk (the_row T.row) T.row self.entry result (λ n w. (arc_value n ≡ w) × IsSole n × (IsSole self.old → arc_block n ≡ arc_block self.old) × IfOk result (λ r. PartsWays T.is_clone self.old n r.now)) (λ n. (arc_value n ≡ arc_value self.old) × (arc_block n ≡ arc_block self.old) × FindsOthers self.old n)) }
+        ensures* writes_back { sem 𝓛 (arc_lends_alone T.row self.entry T.is_clone result) }
         ensures value { IfOk result (λ r. (r.now ≡ arc_value self.old) ⊎ T.is_clone (arc_value self.old) r.now) }
         ensures sole { IsSole self.old → IfOk result (λ r. r.now ≡ arc_value self.old) }
         ensures sole_succeeds { IsSole self.old → IsOk result }
         ensures memory { IfErr result (λ error. error ≡ Memory) }
     {
-        self.part_ways(alloc)?;
+        let ended = self.part_ways(alloc)?;
+        drop(ended);
         self.lend_owned()
     }
 }

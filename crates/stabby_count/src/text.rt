@@ -21,11 +21,12 @@ pub struct WeakStr {
 }
 
 impl ArcStr {
-    ghost use Rattle.std.specs.Prelude.{◌≡◌, ◌≢◌, ◌<◌, ℕ, length, slice_index, IsTrue, true, false, [], IfOk, IfErr, OnOk, OnErr, IsOk, MatchResult};
+    ghost use Rattle.std.specs.Prelude.{◌≡◌, ◌<◌, length, slice_index, IsTrue, false, [], IfOk, IfErr, OnOk, OnErr, IsOk};
     ghost use Rattle.std.specs.Str.{IsUtf8};
     ghost use Rattle.stabby_text.specs.Texts.{with_byte};
-    ghost use Rattle.stabby_count.specs.SharedTexts.{text_value, text_bytes, text_block, text_record, IsSoleText, IsSharedText, weak_text_value, weak_text_block, weak_text_record};
-    ghost use Rattle.stabby_count.specs.Records.{AddsLook, RaisesAfterLooks, ReadsAlone, Refuses, strong_of, weak_of, alone};
+    ghost use Rattle.stabby_count.specs.SharedTexts.{text_value, text_bytes, text_block, text_record, weak_text_value, weak_text_block, weak_text_record, IsSoleText, IsSharedText, IsSameText, TextFindsOthers};
+    ghost use Rattle.stabby_count.specs.Records.{AddsStep, RaisesAfterLooks, ReadsAlone, Refuses, alone, strong_of, weak_of};
+    ghost use Rattle.stabby_count.specs.declared.fault.CountFault.TheVariants.{Memory as NoMemory};
     ghost use Rattle.stabby_count.specs.declared.machine.Step.TheVariants.{Clone as CloneNote, Downgrade as DowngradeNote};
     ghost use Rattle.stabby_layout.specs.declared.error.AllocationError.TheVariants.{Memory};
 
@@ -49,9 +50,9 @@ impl ArcStr {
     ///
     /// The handle comes back exactly where the exchange read a word that isn't one strong and one weak.
     pub fn try_into_string(self) -> Result<String<Global>, ArcStr>
-        ensures value { MatchResult result (λ text. text ≡ text_value self) (λ back. text_value back ≡ text_value self) }
-        ensures shared { IfErr result (λ back. (n : ℕ) × (n ≢ alone) × AddsLook (text_record self) (text_record back) n) }
-        ensures block { IfErr result (λ back. text_block back ≡ text_block self) }
+        ensures value { IfOk result (λ text. text ≡ text_value self) }
+        ensures value_back { IfErr result (IsSameText self) }
+        ensures shared { IfErr result (TextFindsOthers self) }
         ensures sole { IsSoleText self → IsOk result }
     {
         let ArcStr { shared } = self;
@@ -97,7 +98,7 @@ impl ArcStr {
         ensures unique { ReadsAlone (text_record self.old) (text_record self.new) result }
         ensures sole { IsSoleText self.old → IsTrue result }
         ensures becomes_sole { IsTrue result → IsSoleText self.new }
-        ensures kept { (text_value self.new ≡ text_value self.old) × (text_block self.new ≡ text_block self.old) }
+        ensures kept { IsSameText self.old self.new }
     {
         self.shared.is_unique()
     }
@@ -106,12 +107,14 @@ impl ArcStr {
     pub fn clone<H: Wait>(&mut self, rt: &H) -> Result<ArcStr, CountFault>
         ensures value { IfOk result (λ other. text_value other ≡ text_value self.old) }
         ensures block { IfOk result (λ other. text_block other ≡ text_block self.old) }
-        ensures added { IfOk result (λ other. RaisesAfterLooks CloneNote strong_of (text_record self.old) (text_record self.new)) }
+        ensures added { OnOk result (RaisesAfterLooks CloneNote strong_of (text_record self.old) (text_record self.new)) }
         ensures copied { IfOk result (λ other. text_record other ≡ text_record self.new) }
         ensures shares { IfOk result (λ other. IsSharedText self.new × IsSharedText other) }
         ensures stays_sole { IsSoleText self.old → OnErr result (IsSoleText self.new) }
+        ensures sole_word { IsSoleText self.old → OnOk result (AddsStep CloneNote (text_record self.old) (text_record self.new) alone) }
         ensures fault { IfErr result (Refuses strong_of (text_record self.old) (text_record self.new)) }
-        ensures kept { (text_value self.new ≡ text_value self.old) × (text_block self.new ≡ text_block self.old) }
+        ensures sole { IsSoleText self.old → IfErr result (λ fault. fault ≡ NoMemory) }
+        ensures kept { IsSameText self.old self.new }
     {
         match self.shared.clone(rt) {
             Ok(shared) => Ok(ArcStr { shared }),
@@ -123,12 +126,14 @@ impl ArcStr {
     pub fn downgrade<H: Wait>(&mut self, rt: &H) -> Result<WeakStr, CountFault>
         ensures value { IfOk result (λ weak. weak_text_value weak ≡ text_value self.old) }
         ensures block { IfOk result (λ weak. weak_text_block weak ≡ text_block self.old) }
-        ensures added { IfOk result (λ weak. RaisesAfterLooks DowngradeNote weak_of (text_record self.old) (text_record self.new)) }
+        ensures added { OnOk result (RaisesAfterLooks DowngradeNote weak_of (text_record self.old) (text_record self.new)) }
         ensures copied { IfOk result (λ weak. weak_text_record weak ≡ text_record self.new) }
         ensures shares { OnOk result (IsSharedText self.new) }
         ensures stays_sole { IsSoleText self.old → OnErr result (IsSoleText self.new) }
+        ensures sole_word { IsSoleText self.old → OnOk result (AddsStep DowngradeNote (text_record self.old) (text_record self.new) alone) }
         ensures fault { IfErr result (Refuses weak_of (text_record self.old) (text_record self.new)) }
-        ensures kept { (text_value self.new ≡ text_value self.old) × (text_block self.new ≡ text_block self.old) }
+        ensures sole { IsSoleText self.old → IfErr result (λ fault. fault ≡ NoMemory) }
+        ensures kept { IsSameText self.old self.new }
     {
         match self.shared.downgrade(rt) {
             Ok(shared) => Ok(WeakStr { shared }),
@@ -138,23 +143,22 @@ impl ArcStr {
 }
 
 impl WeakStr {
-    ghost use Rattle.std.specs.Prelude.{◌≡◌, ◌<◌, ◌++◌, ◌∷◌, [], ℕ, List, IfOk, IfErr, IfSome, IfNone};
-    ghost use Rattle.stabby_count.specs.SharedTexts.{text_value, text_block, text_record, weak_text_value, weak_text_block, weak_text_record};
+    ghost use Rattle.std.specs.Prelude.{◌≡◌, ◌<◌, ◌++◌, ◌∷◌, [], IfOk, IfErr, IfSome, IfNone, OnOk, OnSome};
+    ghost use Rattle.stabby_count.specs.SharedTexts.{text_value, text_block, text_record, weak_text_value, weak_text_block, weak_text_record, IsSharedText, IsSameWeakText};
     ghost use Rattle.stabby_count.specs.Shared.{spent_block, spent_record, spent_word};
-    ghost use Rattle.stabby_count.specs.Records.{AddsLooks, AddsStep, RaisesAfterLooks, Refuses, RefusesTry, UpgradesAfterLooks, FindsNone, note, strong_of, weak_of};
-    ghost use Rattle.stabby_count.specs.declared.view.Note.{Note};
-    ghost use Rattle.stabby_count.specs.Handles.{count_limit};
-    ghost use Rattle.stabby_count.specs.declared.machine.Step.TheVariants.{Downgrade as DowngradeNote, Upgrade as UpgradeNote, EndWeak as EndNote};
+    ghost use Rattle.stabby_count.specs.Records.{RaisesAfterLooks, Refuses, RefusesTry, Upgrades, UpgradesAfterLooks, FindsNone, FindsNoneAfterLooks, note, strong_of, weak_of};
+    ghost use Rattle.stabby_count.specs.declared.machine.Step.TheVariants.{Downgrade as DowngradeNote, EndWeak as EndNote};
 
     /// A strong handle of the same text, by one try. `None` comes only where the word read had no strong handle.
     pub fn try_upgrade(&mut self) -> Result<Option<ArcStr>, TryCountFault>
         ensures value { IfOk result (λ found. IfSome found (λ strong. text_value strong ≡ weak_text_value self.old)) }
         ensures block { IfOk result (λ found. IfSome found (λ strong. text_block strong ≡ weak_text_block self.old)) }
-        ensures added { IfOk result (λ found. IfSome found (λ strong. (n : ℕ) × (0 < strong_of n) × (strong_of n < count_limit) × AddsStep UpgradeNote (weak_text_record self.old) (weak_text_record self.new) n)) }
+        ensures added { IfOk result (λ found. OnSome found (Upgrades (weak_text_record self.old) (weak_text_record self.new))) }
         ensures copied { IfOk result (λ found. IfSome found (λ strong. text_record strong ≡ weak_text_record self.new)) }
+        ensures shares { IfOk result (λ found. IfSome found IsSharedText) }
         ensures none { IfOk result (λ found. IfNone found (FindsNone (weak_text_record self.old) (weak_text_record self.new))) }
         ensures fault { IfErr result (RefusesTry strong_of (weak_text_record self.old) (weak_text_record self.new)) }
-        ensures kept { (weak_text_value self.new ≡ weak_text_value self.old) × (weak_text_block self.new ≡ weak_text_block self.old) }
+        ensures kept { IsSameWeakText self.old self.new }
     {
         match self.shared.try_upgrade() {
             Ok(Some(shared)) => Ok(Some(ArcStr { shared })),
@@ -169,11 +173,12 @@ impl WeakStr {
     pub fn upgrade<H: Wait>(&mut self, rt: &H) -> Result<Option<ArcStr>, CountFault>
         ensures value { IfOk result (λ found. IfSome found (λ strong. text_value strong ≡ weak_text_value self.old)) }
         ensures block { IfOk result (λ found. IfSome found (λ strong. text_block strong ≡ weak_text_block self.old)) }
-        ensures added { IfOk result (λ found. IfSome found (λ strong. UpgradesAfterLooks (weak_text_record self.old) (weak_text_record self.new))) }
+        ensures added { IfOk result (λ found. OnSome found (UpgradesAfterLooks (weak_text_record self.old) (weak_text_record self.new))) }
         ensures copied { IfOk result (λ found. IfSome found (λ strong. text_record strong ≡ weak_text_record self.new)) }
-        ensures none { IfOk result (λ found. IfNone found ((middle : List Note) × AddsLooks (weak_text_record self.old) middle × FindsNone middle (weak_text_record self.new))) }
+        ensures shares { IfOk result (λ found. IfSome found IsSharedText) }
+        ensures none { IfOk result (λ found. IfNone found (FindsNoneAfterLooks (weak_text_record self.old) (weak_text_record self.new))) }
         ensures fault { IfErr result (Refuses strong_of (weak_text_record self.old) (weak_text_record self.new)) }
-        ensures kept { (weak_text_value self.new ≡ weak_text_value self.old) × (weak_text_block self.new ≡ weak_text_block self.old) }
+        ensures kept { IsSameWeakText self.old self.new }
     {
         match self.shared.upgrade(rt) {
             Ok(Some(shared)) => Ok(Some(ArcStr { shared })),
@@ -186,10 +191,10 @@ impl WeakStr {
     pub fn clone<H: Wait>(&mut self, rt: &H) -> Result<WeakStr, CountFault>
         ensures value { IfOk result (λ other. weak_text_value other ≡ weak_text_value self.old) }
         ensures block { IfOk result (λ other. weak_text_block other ≡ weak_text_block self.old) }
-        ensures added { IfOk result (λ other. RaisesAfterLooks DowngradeNote weak_of (weak_text_record self.old) (weak_text_record self.new)) }
+        ensures added { OnOk result (RaisesAfterLooks DowngradeNote weak_of (weak_text_record self.old) (weak_text_record self.new)) }
         ensures copied { IfOk result (λ other. weak_text_record other ≡ weak_text_record self.new) }
         ensures fault { IfErr result (Refuses weak_of (weak_text_record self.old) (weak_text_record self.new)) }
-        ensures kept { (weak_text_value self.new ≡ weak_text_value self.old) × (weak_text_block self.new ≡ weak_text_block self.old) }
+        ensures kept { IsSameWeakText self.old self.new }
     {
         match self.shared.clone(rt) {
             Ok(shared) => Ok(WeakStr { shared }),

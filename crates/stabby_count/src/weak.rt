@@ -23,22 +23,23 @@ pub struct Weak<T> {
 }
 
 impl<T> Weak<T> {
-    ghost use Rattle.std.specs.Prelude.{◌≡◌, ◌<◌, ◌++◌, ◌∷◌, [], ℕ, List, IfOk, IfErr, IfSome, IfNone};
-    ghost use Rattle.stabby_count.specs.Shared.{arc_value, arc_block, arc_record, weak_value, weak_block, weak_record, spent_block, spent_record, spent_word};
-    ghost use Rattle.stabby_count.specs.Records.{AddsLook, AddsLooks, AddsStep, RaisesAfterLooks, Refuses, RefusesTry, UpgradesAfterLooks, FindsNone, note, strong_of, weak_of};
-    ghost use Rattle.stabby_count.specs.declared.view.Note.{Note};
-    ghost use Rattle.stabby_count.specs.Handles.{count_limit};
-    ghost use Rattle.stabby_count.specs.declared.machine.Step.TheVariants.{Downgrade as DowngradeNote, Upgrade as UpgradeNote, EndWeak as EndNote};
+    ghost use Rattle.std.specs.Prelude.{◌≡◌, ◌<◌, ◌++◌, ◌∷◌, [], IfOk, IfErr, IfSome, IfNone, OnOk, OnSome};
+    ghost use Rattle.stabby_count.specs.Shared.{arc_value, arc_block, arc_record, weak_value, weak_block, weak_record, spent_block, spent_record, spent_word, IsShared, IsSameWeak};
+    ghost use Rattle.stabby_count.specs.Records.{Raises, RaisesAfterLooks, Refuses, RefusesTry, Upgrades, UpgradesAfterLooks, FindsNone, FindsNoneAfterLooks, note, strong_of, weak_of};
+    ghost use Rattle.stabby_count.specs.declared.machine.Step.TheVariants.{Downgrade as DowngradeNote, EndWeak as EndNote};
 
-    /// A strong handle of the same value, by one try. `None` comes only where the word read had no strong handle.
+    /// A strong handle of the same value, by one try. It is shared, for another one is there.
+    ///
+    /// `None` comes only where the word read had no strong handle.
     pub fn try_upgrade(&mut self) -> Result<Option<Arc<T>>, TryCountFault>
         ensures value { IfOk result (λ found. IfSome found (λ strong. arc_value strong ≡ weak_value self.old)) }
         ensures block { IfOk result (λ found. IfSome found (λ strong. arc_block strong ≡ weak_block self.old)) }
-        ensures added { IfOk result (λ found. IfSome found (λ strong. (n : ℕ) × (0 < strong_of n) × (strong_of n < count_limit) × AddsStep UpgradeNote (weak_record self.old) (weak_record self.new) n)) }
+        ensures added { IfOk result (λ found. OnSome found (Upgrades (weak_record self.old) (weak_record self.new))) }
         ensures copied { IfOk result (λ found. IfSome found (λ strong. arc_record strong ≡ weak_record self.new)) }
+        ensures shares { IfOk result (λ found. IfSome found IsShared) }
         ensures none { IfOk result (λ found. IfNone found (FindsNone (weak_record self.old) (weak_record self.new))) }
         ensures fault { IfErr result (RefusesTry strong_of (weak_record self.old) (weak_record self.new)) }
-        ensures kept { (weak_value self.new ≡ weak_value self.old) × (weak_block self.new ≡ weak_block self.old) }
+        ensures kept { IsSameWeak self.old self.new }
     {
         let Ok(block) = Block::try_clone(&self.block) else {
             return Err(TryCountFault::Memory);
@@ -74,10 +75,10 @@ impl<T> Weak<T> {
     fn try_clone(&mut self) -> Result<Weak<T>, TryCountFault>
         ensures value { IfOk result (λ other. weak_value other ≡ weak_value self.old) }
         ensures block { IfOk result (λ other. weak_block other ≡ weak_block self.old) }
-        ensures added { IfOk result (λ other. (n : ℕ) × (weak_of n < count_limit) × AddsStep DowngradeNote (weak_record self.old) (weak_record self.new) n) }
+        ensures added { OnOk result (Raises DowngradeNote weak_of (weak_record self.old) (weak_record self.new)) }
         ensures copied { IfOk result (λ other. weak_record other ≡ weak_record self.new) }
         ensures fault { IfErr result (RefusesTry weak_of (weak_record self.old) (weak_record self.new)) }
-        ensures kept { (weak_value self.new ≡ weak_value self.old) × (weak_block self.new ≡ weak_block self.old) }
+        ensures kept { IsSameWeak self.old self.new }
     {
         let Ok(block) = Block::try_clone(&self.block) else {
             return Err(TryCountFault::Memory);
@@ -108,11 +109,12 @@ impl<T> Weak<T> {
     pub fn upgrade<H: Wait>(&mut self, rt: &H) -> Result<Option<Arc<T>>, CountFault>
         ensures value { IfOk result (λ found. IfSome found (λ strong. arc_value strong ≡ weak_value self.old)) }
         ensures block { IfOk result (λ found. IfSome found (λ strong. arc_block strong ≡ weak_block self.old)) }
-        ensures added { IfOk result (λ found. IfSome found (λ strong. UpgradesAfterLooks (weak_record self.old) (weak_record self.new))) }
+        ensures added { IfOk result (λ found. OnSome found (UpgradesAfterLooks (weak_record self.old) (weak_record self.new))) }
         ensures copied { IfOk result (λ found. IfSome found (λ strong. arc_record strong ≡ weak_record self.new)) }
-        ensures none { IfOk result (λ found. IfNone found ((middle : List Note) × AddsLooks (weak_record self.old) middle × FindsNone middle (weak_record self.new))) }
+        ensures shares { IfOk result (λ found. IfSome found IsShared) }
+        ensures none { IfOk result (λ found. IfNone found (FindsNoneAfterLooks (weak_record self.old) (weak_record self.new))) }
         ensures fault { IfErr result (Refuses strong_of (weak_record self.old) (weak_record self.new)) }
-        ensures kept { (weak_value self.new ≡ weak_value self.old) × (weak_block self.new ≡ weak_block self.old) }
+        ensures kept { IsSameWeak self.old self.new }
     {
         for _ in rt.forever() {
             match self.try_upgrade() {
@@ -134,10 +136,10 @@ impl<T> Weak<T> {
     pub fn clone<H: Wait>(&mut self, rt: &H) -> Result<Weak<T>, CountFault>
         ensures value { IfOk result (λ other. weak_value other ≡ weak_value self.old) }
         ensures block { IfOk result (λ other. weak_block other ≡ weak_block self.old) }
-        ensures added { IfOk result (λ other. RaisesAfterLooks DowngradeNote weak_of (weak_record self.old) (weak_record self.new)) }
+        ensures added { OnOk result (RaisesAfterLooks DowngradeNote weak_of (weak_record self.old) (weak_record self.new)) }
         ensures copied { IfOk result (λ other. weak_record other ≡ weak_record self.new) }
         ensures fault { IfErr result (Refuses weak_of (weak_record self.old) (weak_record self.new)) }
-        ensures kept { (weak_value self.new ≡ weak_value self.old) × (weak_block self.new ≡ weak_block self.old) }
+        ensures kept { IsSameWeak self.old self.new }
     {
         for _ in rt.forever() {
             match self.try_clone() {

@@ -8,3 +8,5 @@ pub mod Inserting
 pub mod Working
 pub mod Joining
 pub mod Trying
+pub mod Agreeing
+pub mod GoingOn

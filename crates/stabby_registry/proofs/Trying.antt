@@ -1,13 +1,13 @@
 -- From what the two turns of one try say of a pass to what the whole try says.
-use Rattle.std.proofs.Common.{◌≡◌, ◌≢◌, ℕ, ◌+◌, ◌^◌, ◌<◌, ◌≤◌, List, [], ◌∷◌, ◌++◌, length, take, false, sym, refl, ap, ◌∙◌, subst, arith, append-nil, take_at}
+use Rattle.std.proofs.Common.{◌≡◌, ◌≢◌, ℕ, ◌+◌, ◌^◌, ◌<◌, ◌≤◌, List, [], ◌∷◌, ◌++◌, length, take, false, sym, refl, ap, ◌∙◌, subst, arith, append-nil, take_at, inl, inr, Err}
 use mathlib.Core.List.{IsPrefix}
 use Rattle.stabby_cell.specs.declared.chronicle.Chronicle.{Ghosts}
 use Rattle.stabby_cell.specs.declared.pass.Pass.{Pass}
-use Rattle.stabby_cell.specs.declared.view.StepKind.TheVariants.{Take, Release}
+use Rattle.stabby_cell.specs.declared.view.StepKind.TheVariants.{Take, Missed, Release, Commit}
 use Rattle.stabby_cell.specs.Telling.{noted}
 use Rattle.stabby_cell.specs.Recording.{ViewAdvances}
 use Rattle.stabby_cell.specs.Passes.{view_of, front_of, first_stamp_of, stamp_of, weight_of, commits_of, opening_stamp_of, IsWhole, IsEachOnce, IsPassOf, Advances, Looked, MissedTurn, MissedTurnAtLast}
-use Rattle.stabby_cell.specs.Turns.{GaveBack}
+use Rattle.stabby_cell.specs.Turns.{GaveBack, CommitsTurn}
 use Rattle.stabby_cell.proofs.CallLemmas.{no_commit_looked, looked_looked, missed_at_last}
 use Rattle.stabby_cell.proofs.RecordLemmas.{advances_trans, advances_none}
 use Rattle.stabby_tables.specs.Tables.{Table}
@@ -16,8 +16,8 @@ use Rattle.stabby_registry.specs.declared.registry.VtBtree.{VtBtree}
 use Rattle.stabby_registry.specs.declared.fault.TryFault.{TryFault}
 use Rattle.stabby_registry.specs.declared.fault.TryFault.TheVariants.{Busy, Moved, Full, Memory}
 use Rattle.stabby_registry.specs.Inserts.{HasMoved, IsTryFault}
-use Rattle.stabby_registry.specs.Tries.{IsOwnFault}
-use Rattle.stabby_registry.specs.TryVisits.{VisitedOnce, IsFindFault, IsOfferFault}
+use Rattle.stabby_registry.specs.Tries.{IsOwnFault, TookSteps, HasTriedInsert}
+use Rattle.stabby_registry.specs.TryVisits.{VisitedOnce, CommittedOnce, IsFindFault, IsOfferFault}
 use Rattle.stabby_registry.proofs.PassLemmas.{prefix_length}
 use Rattle.stabby_registry.proofs.Inserting.{first_zero}
 
@@ -116,3 +116,45 @@ module _ {size : ℕ} {g : Ghosts (List Table) Table} where
       absurd (omega (arith, counts, firsts, before, after, not_before, longer, seen_is))
   own_if_whole registry p q t (Full front) own still h whole = tt
   own_if_whole registry p q t Memory own still h whole = tt
+
+-- ---- the steps of a try
+module _ {g : Ghosts (List Table) Table} where
+  -- a turn that was free, still at the stamp of the front, and committed
+  pub committed_once : (p q r : Pass (List Table) Table g) (base seen : ℕ) (e : Table) → Advances p q (noted Take (stamp_of q) ∷ []) → base ≡ stamp_of p → seen ≡ stamp_of q → seen ≡ base → CommitsTurn q r e → CommittedOnce p r
+  committed_once p q r base seen e a before after same c =
+      let is : stamp_of q ≡ stamp_of p = omega (arith, before, after, same) in
+      subst (λ (k : ℕ). Advances p r (noted Take k ∷ noted Commit k ∷ [])) is
+      (advances_trans (view_of p) (view_of q) (view_of r) (noted Take (stamp_of q) ∷ []) (noted Commit (stamp_of q) ∷ []) a (CommitsTurn.advances c))
+
+  pub tried_known : (p q : Pass (List Table) Table g) → VisitedOnce p q → TookSteps p q (Take ∷ Release ∷ [])
+  tried_known p q v = record { steps = noted Take (stamp_of q) ∷ noted Release (stamp_of q) ∷ []; advances = v; are = refl }
+
+  pub tried_missed : (p q : Pass (List Table) Table g) → MissedTurn p q → TookSteps p q (Missed ∷ [])
+  tried_missed p q m = record { steps = noted Missed (MissedTurn.stamp m) ∷ []; advances = MissedTurn.advances m; are = refl }
+
+  pub tried_find : (p q : Pass (List Table) Table g) (f : TryFault) → IsFindFault p q f → HasTriedInsert p q (Err f)
+  tried_find p q Busy h = inl (tried_missed p q h)
+  tried_find p q (Moved from seen) h = absurd h
+  tried_find p q (Full front) h = absurd h
+  tried_find p q Memory h = tried_known p q h
+
+  pub tried_offer : (p q r : Pass (List Table) Table g) (f : TryFault) → VisitedOnce p q → IsOfferFault q r f → HasTriedInsert p r (Err f)
+  tried_offer p q r Busy v m = inr (record {
+    steps = noted Take (stamp_of q) ∷ noted Release (stamp_of q) ∷ noted Missed (MissedTurn.stamp m) ∷ [];
+    advances = advances_trans (view_of p) (view_of q) (view_of r) (noted Take (stamp_of q) ∷ noted Release (stamp_of q) ∷ []) (noted Missed (MissedTurn.stamp m) ∷ []) v (MissedTurn.advances m);
+    are = refl;
+  })
+  tried_offer p q r (Moved from seen) v (from_is, seen_is, grew, again) = record {
+    steps = noted Take (stamp_of q) ∷ noted Release (stamp_of q) ∷ noted Take (stamp_of r) ∷ noted Release (stamp_of r) ∷ [];
+    advances = advances_trans (view_of p) (view_of q) (view_of r) (noted Take (stamp_of q) ∷ noted Release (stamp_of q) ∷ []) (noted Take (stamp_of r) ∷ noted Release (stamp_of r) ∷ []) v again;
+    are = refl;
+  }
+  tried_offer p q r (Full front) v h = absurd h
+  tried_offer p q r Memory v h = absurd h
+
+  pub tried_commit : (p q r : Pass (List Table) Table g) → VisitedOnce p q → CommittedOnce q r → TookSteps p r (Take ∷ Release ∷ Take ∷ Commit ∷ [])
+  tried_commit p q r v c = record {
+    steps = noted Take (stamp_of q) ∷ noted Release (stamp_of q) ∷ noted Take (stamp_of q) ∷ noted Commit (stamp_of q) ∷ [];
+    advances = advances_trans (view_of p) (view_of q) (view_of r) (noted Take (stamp_of q) ∷ noted Release (stamp_of q) ∷ []) (noted Take (stamp_of q) ∷ noted Commit (stamp_of q) ∷ []) v c;
+    are = refl;
+  }

@@ -5,4 +5,6 @@ pub mod Interned
 pub mod Visits
 pub mod Work
 pub mod Tries
+pub mod Loans
+pub mod Laws
 pub mod TryVisits

@@ -1,5 +1,6 @@
 -- What contracts say of a registry's passes.
-use Rattle.std.specs.Prelude.{◌≡◌, ℕ, List, []}
+use Rattle.std.specs.Prelude.{◌≡◌, ℕ, ◌≤◌, List, []}
+use mathlib.Core.List.{IsPrefix}
 use Rattle.stabby_cell.specs.declared.chronicle.Chronicle.{Ghosts}
 use Rattle.stabby_cell.specs.declared.pass.Pass.{Pass}
 use Rattle.stabby_cell.specs.Passes as cell
@@ -19,3 +20,12 @@ module _ {size : ℕ} {g : Ghosts (List Table) Table} where
     pub empty : front_of p ≡ []
     pub none_added : commits_of p ≡ []
     pub no_steps : record_of p ≡ []
+    pub none_lost : lost_of p ≡ 0
+
+module _ {g : Ghosts (List Table) Table} where
+  -- q is p some steps later: its front, its record, its commits and its count of missed turns go on from those of p
+  pub record GoesOn (p q : Pass (List Table) Table g) : Type 0 where
+    pub front : IsPrefix (front_of p) (front_of q)
+    pub steps : IsPrefix (record_of p) (record_of q)
+    pub commits : IsPrefix (commits_of p) (commits_of q)
+    pub lost : lost_of p ≤ lost_of q

@@ -84,8 +84,9 @@ impl<const SIZE: usize> Catalog<SIZE> {
     /// `Memory`, where the list or a further handle of a table finds none.
     pub fn entries(&self, alloc: Global) -> Result<Vec<Numbered>, AllocationError>
         ensures ok { IfOk result (λ entries. entries.items ≡ ordered self.now) }
-        ensures can_rank { IfOk result (λ entries. (numbers : List ℕ) → All (λ n. n < length entries.items) numbers → CanRank entries.items numbers) }
-        ensures err { IfErr result (λ error. error ≡ AllocationError.Memory) }
+        ensures can_rank { IfOk result (λ entries. (numbers : List ℕ) → All (λ n. n < length entries.items) numbers
+            → CanRank entries.items numbers) }
+        ensures memory { IfErr result (λ error. error ≡ AllocationError.Memory) }
     {
         let list = self.entries.to_list(alloc)?;
         let mut entries = Vec::with_capacity(alloc, list.len())?;
@@ -119,8 +120,9 @@ impl<const SIZE: usize> Catalog<SIZE> {
         &self,
         number: u64,
     ) -> Result<Option<Arc<WordTable, Global>>, AllocationError>
-        ensures ok { IfOk result (λ handle. MatchOption handle (length self.now ≤ number) (λ table. IsNumber self.now table.value number)) }
-        ensures err { IfErr result (λ error. error ≡ AllocationError.Memory) }
+        ensures ok { IfOk result (λ handle. MatchOption handle (length self.now ≤ number)
+            (λ table. IsNumber self.now table.value number)) }
+        ensures memory { IfErr result (λ error. error ≡ AllocationError.Memory) }
     {
         match self.entries.find(|entry| entry.number() == number) {
             Some(entry) => Ok(Some(entry.handle()?)),
@@ -131,7 +133,7 @@ impl<const SIZE: usize> Catalog<SIZE> {
     // An equal catalog.
     pub(crate) fn duplicate(&self) -> Result<Catalog<SIZE>, AllocationError>
         ensures ok { IfOk result (λ copy. copy ≡ self.now) }
-        ensures err { IfErr result (λ error. error ≡ AllocationError.Memory) }
+        ensures memory { IfErr result (λ error. error ≡ AllocationError.Memory) }
     {
         Ok(Catalog {
             entries: self.entries.clone()?,
@@ -141,7 +143,7 @@ impl<const SIZE: usize> Catalog<SIZE> {
     // Looks a table up, and copies the version where it is absent.
     pub(crate) fn find(&self, table: &WordTable) -> Result<Found<SIZE>, AllocationError>
         ensures found { IfOk result (HasFound self.now table.now) }
-        ensures err { IfErr result (λ error. error ≡ AllocationError.Memory) }
+        ensures memory { IfErr result (λ error. error ≡ AllocationError.Memory) }
     {
         if let Some(number) = self.number_of(table) {
             return Ok(Found::Known(number));
@@ -173,7 +175,7 @@ impl<const SIZE: usize> Catalog<SIZE> {
         requires absent { has self.old table.value ≡ false }
         requires room { length self.old < 2 ^ 63 - 1 }
         ensures ok { OnOk result (self.new ≡ self.old ++ table.value ∷ []) }
-        ensures err { OnErr result (self.new ≡ self.old) }
+        ensures unchanged { OnErr result (self.new ≡ self.old) }
         ensures memory { IfErr result (λ error. error ≡ AllocationError.Memory) }
     {
         let number = self.entries.len() as u64;

@@ -1,15 +1,13 @@
 //! Holding a registry's turn.
 
 ghost use Rattle.std.specs.Prelude.{◌≡◌, ◌<◌, ◌^◌, ◌∷◌, [], IfOk, OnErr};
-ghost use Rattle.std.specs.Borrow.{sem, RestsIfErr};
-ghost use Rattle.stabby_cell.specs.contracts.pass.Pass.{the_row as pass_row};
-ghost use Rattle.stabby_registry.specs.contracts.catalog.Catalog.{the_row as catalog_row};
-ghost use Rattle.stabby_registry.specs.contracts.table.WordTable.{the_row as table_row};
+ghost use Rattle.std.specs.Borrow.{sem};
 ghost use Rattle.stabby_registry.specs.Passes.{IsPassOf};
+ghost use Rattle.stabby_registry.specs.Loans.{rests_if_busy};
 ghost use Rattle.stabby_registry.specs.Catalog.{AppendsTable};
 ghost use Rattle.stabby_cell.specs.Telling.{noted};
 ghost use Rattle.stabby_cell.specs.declared.view.StepKind.TheVariants.{Take};
-ghost use Rattle.stabby_cell.specs.Passes.{Advances, MissedTurn, stamp_of, weight_of};
+ghost use Rattle.stabby_cell.specs.Passes.{Advances, stamp_of, weight_of};
 ghost use Rattle.stabby_cell.specs.Turns.{IsTurn, cell_of, pass_of, lender_of};
 
 use crate::catalog::Catalog;
@@ -27,12 +25,13 @@ impl<const SIZE: usize> VtBtree<SIZE> {
     /// never gets it.
     pub fn try_hold<'a>(&'a self, pass: &'a mut TreePass<SIZE>) -> Result<Held<'a, SIZE>, Busy>
         requires { IsPassOf self.now pass.old }
-        ensures* busy { sem 𝓛 (RestsIfErr (pass_row (catalog_row SIZE.row) table_row ⟦<Catalog<SIZE> as Chronicle>⟧) pass.entry lender_of result (λ p. IsPassOf self.now p × MissedTurn pass.old p)) }
+        ensures* busy { sem 𝓛 (rests_if_busy SIZE.row ⟦<Catalog<SIZE> as Chronicle>⟧ self.now pass.entry result) }
         ensures not_whole { OnErr result (weight_of pass.old < 2 ^ 32) }
         ensures cell { IfOk result (λ held. cell_of held ≡ self.now.cell) }
         ensures same_pass { IfOk result (λ held. lender_of held ≡ pass.entry.ghost_name) }
         ensures turn { IfOk result (IsTurn AppendsTable) }
-        ensures took { IfOk result (λ held. Advances pass.old (pass_of held) (noted Take (stamp_of (pass_of held)) ∷ [])) }
+        ensures took { IfOk result (λ held. Advances pass.old (pass_of held)
+            (noted Take (stamp_of (pass_of held)) ∷ [])) }
     {
         try_hold(pass, self)
     }
@@ -50,12 +49,13 @@ pub fn try_hold<'a, const SIZE: usize>(
     registry: &'a VtBtree<SIZE>,
 ) -> Result<Held<'a, SIZE>, Busy>
     requires { IsPassOf registry.now pass.old }
-    ensures* busy { sem 𝓛 (RestsIfErr (pass_row (catalog_row SIZE.row) table_row ⟦<Catalog<SIZE> as Chronicle>⟧) pass.entry lender_of result (λ p. IsPassOf registry.now p × MissedTurn pass.old p)) }
+    ensures* busy { sem 𝓛 (rests_if_busy SIZE.row ⟦<Catalog<SIZE> as Chronicle>⟧ registry.now pass.entry result) }
     ensures not_whole { OnErr result (weight_of pass.old < 2 ^ 32) }
     ensures cell { IfOk result (λ held. cell_of held ≡ registry.now.cell) }
     ensures same_pass { IfOk result (λ held. lender_of held ≡ pass.entry.ghost_name) }
     ensures turn { IfOk result (IsTurn AppendsTable) }
-    ensures took { IfOk result (λ held. Advances pass.old (pass_of held) (noted Take (stamp_of (pass_of held)) ∷ [])) }
+    ensures took { IfOk result (λ held. Advances pass.old (pass_of held)
+        (noted Take (stamp_of (pass_of held)) ∷ [])) }
 {
     pass.try_take(&registry.cell)
 }

@@ -49,7 +49,7 @@ impl<const SIZE: usize> VtBtree<SIZE> {
         ensures inserts { IfOk result (InsertsTable pass.old pass.new table.now) }
         ensures known { has (front_of pass.old) table.now ≡ true → OnOk result (Looked pass.old pass.new) }
         ensures distinct { OnOk result (IsDistinct (front_of pass.new)) }
-        ensures err { IfErr result (IsInsertFault pass.old pass.new table.now) }
+        ensures refused { IfErr result (IsInsertFault pass.old pass.new table.now) }
     {
         gate.before(worker, place);
         for _ in rt.forever() {
@@ -88,7 +88,7 @@ impl<const SIZE: usize> VtBtree<SIZE> {
         ensures looked { Looked pass.old pass.new }
         ensures distinct { IsDistinct (front_of pass.new) }
         ensures found { IfOk result (HasFound (front_of pass.new) table.now) }
-        ensures err { IfErr result (λ error. error ≡ AllocationError.Memory) }
+        ensures memory { IfErr result (λ error. error ≡ AllocationError.Memory) }
     {
         let turn = self.cell.take(rt, pass);
         let found = turn.version().find(table);
@@ -116,7 +116,7 @@ impl<const SIZE: usize> VtBtree<SIZE> {
         }
         match turn.commit(next) {
             Ok(_) => Offered::Committed,
-            Err(_) => Offered::Moved,
+            Err(_) => unreachable!(),
         }
     }
 }

@@ -3,7 +3,7 @@
 ghost use Rattle.std.specs.Prelude.{◌≡◌, ◌<◌, ◌≤◌, ◌+◌, ◌^◌, ◌-◌, length, map, IfOk, IfErr, OnOk, OnErr};
 ghost use Rattle.stabby_tables.specs.Lists.{place, ordered, AppendsSome, AppendsAbsent};
 ghost use Rattle.stabby_tables.specs.Shares.{IsFirstInShare};
-ghost use Rattle.stabby_registry.specs.Passes.{IsWhole, IsPassOf, front_of};
+ghost use Rattle.stabby_registry.specs.Passes.{IsWhole, IsPassOf, GoesOn, front_of};
 ghost use Rattle.stabby_registry.specs.Interned.{CanRank};
 
 use crate::fault::RegistryFault;
@@ -77,11 +77,13 @@ pub fn intern_all<G: Gate, H: Threads + Wait + Sync>(
     ensures entries { IfOk result (λ interned. interned.entries ≡ ordered (front_of pass.new)) }
     ensures can_rank { IfOk result (λ interned. CanRank interned.entries interned.numbers) }
 
-    ensures err { OnErr result (AppendsSome (front_of pass.old) tables.now (front_of pass.new)) }
+    ensures some_added { OnErr result (AppendsSome (front_of pass.old) tables.now (front_of pass.new)) }
     ensures memory { IfErr result (λ error. error ≡ AllocationError.Memory) }
 
     ensures whole { IsWhole pass.new }
     ensures belongs { IsPassOf registry.new pass.new }
+    ensures same_registry { registry.new ≡ registry.old }
+    ensures goes_on { GoesOn pass.old pass.new }
 {
     let numbered = number_tables(rt, alloc, registry, pass, tables, workers, gate);
     let entries = registry.entries(rt, alloc, pass);

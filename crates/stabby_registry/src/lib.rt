@@ -11,6 +11,7 @@ mod gate;
 mod held;
 mod insert;
 mod intern;
+pub mod laws;
 mod lists_words;
 mod numbered;
 mod ranking;
@@ -35,5 +36,7 @@ pub use stabby_layout::AllocationError;
 pub use table::WordTable;
 pub use vtable_registry::VTableRegistry;
 
+#[cfg(test)]
+mod gate_tests;
 #[cfg(test)]
 mod tests;

@@ -17,7 +17,7 @@ pub trait ListsWords {
     /// `Memory`, where the table finds none.
     fn list_words(&self, alloc: Global) -> Result<WordTable, AllocationError>
         ensures ok { IfOk result (λ table. table ≡ listed_words self.now) }
-        ensures err { IfErr result (λ error. error ≡ AllocationError.Memory) };
+        ensures memory { IfErr result (λ error. error ≡ AllocationError.Memory) };
 }
 
 /// A table lists its own words.

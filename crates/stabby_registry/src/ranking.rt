@@ -36,7 +36,8 @@ pub fn ranks(
 fn places_of(alloc: Global, entries: &[Numbered]) -> Result<Vec<u64>, AllocationError>
     requires { CanRank entries.now [] }
     ensures long { IfOk result (λ places. length places.items ≡ length entries.now) }
-    ensures places { IfOk result (λ places. (n : ℕ) → n < length entries.now → slice_index places.items n ≡ entry_place entries.now n) }
+    ensures places { IfOk result (λ places. (n : ℕ) → n < length entries.now
+        → slice_index places.items n ≡ entry_place entries.now n) }
     ensures memory { IfErr result (λ error. error ≡ AllocationError.Memory) }
 {
     let mut places = vec![in alloc; entries.len() as u64; entries.len()]?;

@@ -35,7 +35,7 @@ impl<const SIZE: usize> VtBtree<SIZE> {
     pub fn new(alloc: Global) -> Result<(VtBtree<SIZE>, TreePass<SIZE>), AllocationError>
         requires { IsLimit SIZE }
         ensures ok { IfOk result (λ made. IsOpening made.0 made.1) }
-        ensures err { IfErr result (λ error. error ≡ AllocationError.Memory) }
+        ensures memory { IfErr result (λ error. error ≡ AllocationError.Memory) }
     {
         match TurnCell::new(alloc, Catalog::new(alloc), 0) {
             Ok((cell, pass)) => Ok((VtBtree { cell }, pass)),

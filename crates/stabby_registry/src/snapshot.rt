@@ -16,6 +16,7 @@ use std::sync::{Arc, Wait};
 impl<const SIZE: usize> VtBtree<SIZE> {
     ghost use Rattle.stabby_registry.specs.Passes.{IsPassOf};
     ghost use Rattle.stabby_registry.specs.Inserts.{IsNumber, IsReadFault};
+    ghost use Rattle.stabby_registry.specs.Tries.{HasTriedRead};
 
     /// The registry's list, as of the last step of this call.
     ///
@@ -31,7 +32,7 @@ impl<const SIZE: usize> VtBtree<SIZE> {
         ensures looked { Looked pass.old pass.new }
         ensures list { IfOk result (λ catalog. catalog ≡ front_of pass.new) }
         ensures distinct { IsDistinct (front_of pass.new) }
-        ensures err { IfErr result (λ error. error ≡ AllocationError.Memory) }
+        ensures memory { IfErr result (λ error. error ≡ AllocationError.Memory) }
     {
         let turn = self.cell.take(rt, pass);
         let catalog = turn.version().duplicate();
@@ -44,12 +45,14 @@ impl<const SIZE: usize> VtBtree<SIZE> {
     /// # Errors
     /// `Busy` only where another pass held the turn: `lost` rose by one, the front stays; never for a whole pass.
     /// `Memory`, where the copy of the version finds none.
+    #[tactic(auto, using(crate::proofs::Trying::tried_missed))]
     pub fn try_snapshot(&self, pass: &mut TreePass<SIZE>) -> Result<Catalog<SIZE>, CellFault>
         requires { IsPassOf self.now pass.old }
         ensures pass { IsPassOf self.now pass.new }
         ensures looked { OnOk result (Looked pass.old pass.new) }
         ensures list { IfOk result (λ catalog. catalog ≡ front_of pass.new) }
-        ensures err { IfErr result (IsReadFault pass.old pass.new) }
+        ensures tried { HasTriedRead pass.old pass.new result }
+        ensures refused { IfErr result (IsReadFault pass.old pass.new) }
     {
         match pass.try_take(&self.cell) {
             Err(Busy) => Err(CellFault::Busy),
@@ -77,8 +80,9 @@ impl<const SIZE: usize> VtBtree<SIZE> {
         requires { IsPassOf self.now pass.old }
         ensures pass { IsPassOf self.now pass.new }
         ensures looked { Looked pass.old pass.new }
-        ensures entry { IfOk result (λ entry. MatchOption entry (length (front_of pass.new) ≤ number) (λ table. IsNumber (front_of pass.new) table.value number)) }
-        ensures err { IfErr result (λ error. error ≡ AllocationError.Memory) }
+        ensures entry { IfOk result (λ entry. MatchOption entry (length (front_of pass.new) ≤ number)
+            (λ table. IsNumber (front_of pass.new) table.value number)) }
+        ensures memory { IfErr result (λ error. error ≡ AllocationError.Memory) }
     {
         let turn = self.cell.take(rt, pass);
         let entry = turn.version().handle_of(number);
@@ -98,7 +102,7 @@ impl<const SIZE: usize> VtBtree<SIZE> {
         ensures looked { Looked pass.old pass.new }
         ensures ok { IfOk result (λ entries. entries.items ≡ ordered (front_of pass.new)) }
         ensures distinct { IsDistinct (front_of pass.new) }
-        ensures err { IfErr result (λ error. error ≡ AllocationError.Memory) }
+        ensures memory { IfErr result (λ error. error ≡ AllocationError.Memory) }
     {
         let turn = self.cell.take(rt, pass);
         let entries = turn.version().entries(alloc);

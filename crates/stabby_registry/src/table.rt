@@ -41,7 +41,7 @@ impl WordTable {
     /// `Memory`, where their copy finds none.
     pub fn from_words(alloc: Global, words: &[u64]) -> Result<WordTable, AllocationError>
         ensures ok { IfOk result (λ table. table ≡ words.now) }
-        ensures err { IfErr result (λ error. error ≡ AllocationError.Memory) }
+        ensures memory { IfErr result (λ error. error ≡ AllocationError.Memory) }
     {
         Ok(WordTable::from_vec(words.to_vec(alloc)?))
     }
@@ -67,7 +67,7 @@ impl WordTable {
     /// `Memory`, where the copy finds none.
     pub fn copy(&self) -> Result<WordTable, AllocationError>
         ensures ok { IfOk result (λ table. table ≡ self.now) }
-        ensures err { IfErr result (λ error. error ≡ AllocationError.Memory) }
+        ensures memory { IfErr result (λ error. error ≡ AllocationError.Memory) }
     {
         Ok(WordTable {
             first: self.first,

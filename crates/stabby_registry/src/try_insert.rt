@@ -15,9 +15,9 @@ use std::alloc::Global;
 impl<const SIZE: usize> VtBtree<SIZE> {
     ghost use Rattle.stabby_registry.specs.Passes.{IsPassOf};
     ghost use Rattle.stabby_registry.specs.Inserts.{IsNumber, InsertsTable, IsTryFault};
-    ghost use Rattle.stabby_registry.specs.Tries.{IsOwnFault};
+    ghost use Rattle.stabby_registry.specs.Tries.{IsOwnFault, HasTriedInsert};
     ghost use Rattle.stabby_registry.specs.Visits.{HasFound};
-    ghost use Rattle.stabby_registry.specs.TryVisits.{VisitedOnce, IsFindFault, IsOfferFault};
+    ghost use Rattle.stabby_registry.specs.TryVisits.{VisitedOnce, CommittedOnce, IsFindFault, IsOfferFault};
     ghost use Rattle.stabby_registry.specs.Catalog.{AppendsTable, last_table};
 
     /// `VTableRegistry::insert` by one try: the turn is taken once to look the table up, and once to commit the new version.
@@ -39,7 +39,8 @@ impl<const SIZE: usize> VtBtree<SIZE> {
         ensures inserts { IfOk result (InsertsTable pass.old pass.new table.now) }
         ensures known { has (front_of pass.old) table.now ≡ true → OnOk result (Looked pass.old pass.new) }
         ensures distinct { OnOk result (IsDistinct (front_of pass.new)) }
-        ensures err { IfErr result (IsTryFault pass.old pass.new table.now) }
+        ensures tried { HasTriedInsert pass.old pass.new result }
+        ensures refused { IfErr result (IsTryFault pass.old pass.new table.now) }
         ensures whole { IsWhole pass.old → IfErr result IsOwnFault }
     {
         match self.try_find(pass, table)? {
@@ -65,7 +66,7 @@ impl<const SIZE: usize> VtBtree<SIZE> {
         ensures visited { OnOk result (VisitedOnce pass.old pass.new) }
         ensures distinct { OnOk result (IsDistinct (front_of pass.new)) }
         ensures found { IfOk result (HasFound (front_of pass.new) table.now) }
-        ensures err { IfErr result (IsFindFault pass.old pass.new) }
+        ensures refused { IfErr result (IsFindFault pass.old pass.new) }
     {
         match pass.try_take(&self.cell) {
             Err(Busy) => Err(TryFault::Busy),
@@ -87,7 +88,8 @@ impl<const SIZE: usize> VtBtree<SIZE> {
         requires room { length (front_of pass.old) < 2 ^ 63 - 1 }
         ensures pass { IsPassOf self.now pass.new }
         ensures committed { OnOk result (Committed pass.old pass.new (front_of pass.old) (last_table next.entry)) }
-        ensures err { IfErr result (IsOfferFault pass.old pass.new) }
+        ensures committed_once { OnOk result (CommittedOnce pass.old pass.new) }
+        ensures refused { IfErr result (IsOfferFault pass.old pass.new) }
     {
         let base = pass.seen();
         match pass.try_take(&self.cell) {

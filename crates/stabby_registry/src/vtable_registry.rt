@@ -29,6 +29,9 @@ pub trait VTableRegistry {
     // The tables that the caller has seen.
     ghost front: { Self.Pass → List (List ℕ) };
 
+    // The call read the registry and added nothing.
+    ghost looked: { Self.Pass → Self.Pass → Type 0 };
+
     // What an insert that gave the table this number did: the pass before and after, the table, the number.
     ghost inserts: { Self.Pass → Self.Pass → List ℕ → ℕ → Type 0 };
 
@@ -51,7 +54,9 @@ pub trait VTableRegistry {
         ensures front { IsPrefix (front pass.old) (front pass.new) }
         ensures number { IfOk result (λ n. IsNumber (front pass.new) table.now n) }
         ensures inserts { IfOk result (inserts pass.old pass.new table.now) }
-        ensures err { IfErr result (refuses pass.old pass.new table.now) };
+        ensures distinct { OnOk result (IsDistinct (front pass.new)) }
+        ensures known { has (front pass.old) table.now ≡ true → OnOk result (looked pass.old pass.new) }
+        ensures refused { IfErr result (refuses pass.old pass.new table.now) };
 
     /// `insert` of the table of the words that a value lists.
     ///
@@ -69,7 +74,10 @@ pub trait VTableRegistry {
         ensures front { IsPrefix (front pass.old) (front pass.new) }
         ensures number { IfOk result (λ n. IsNumber (front pass.new) (Vt.listed_words vtable.now) n) }
         ensures inserts { IfOk result (inserts pass.old pass.new (Vt.listed_words vtable.now)) }
-        ensures err { IfErr result (refuses pass.old pass.new (Vt.listed_words vtable.now)) };
+        ensures distinct { OnOk result (IsDistinct (front pass.new)) }
+        ensures known { has (front pass.old) (Vt.listed_words vtable.now) ≡ true
+            → OnOk result (looked pass.old pass.new) }
+        ensures refused { IfErr result (refuses pass.old pass.new (Vt.listed_words vtable.now)) };
 }
 
 /// `Full` only where the table is absent and the stamp is 2^63 - 1; `RowFull` never.
@@ -79,6 +87,8 @@ impl<const SIZE: usize> VTableRegistry for VtBtree<SIZE> {
     ghost belongs = { λ registry p. IsPassOf registry p };
 
     ghost front = { λ p. front_of p };
+
+    ghost looked = { λ p q. Looked p q };
 
     ghost inserts = { λ p q t n. InsertsTable p q t n };
 
@@ -98,7 +108,7 @@ impl<const SIZE: usize> VTableRegistry for VtBtree<SIZE> {
         ensures inserts { IfOk result (InsertsTable pass.old pass.new table.now) }
         ensures known { has (front_of pass.old) table.now ≡ true → OnOk result (Looked pass.old pass.new) }
         ensures distinct { OnOk result (IsDistinct (front_of pass.new)) }
-        ensures err { IfErr result (IsInsertFault pass.old pass.new table.now) }
+        ensures refused { IfErr result (IsInsertFault pass.old pass.new table.now) }
     {
         self.insert_gated(rt, alloc, pass, table, &OpenGate, 0, 0)
     }
@@ -115,9 +125,10 @@ impl<const SIZE: usize> VTableRegistry for VtBtree<SIZE> {
         ensures front { IsPrefix (front_of pass.old) (front_of pass.new) }
         ensures number { IfOk result (λ n. IsNumber (front_of pass.new) (Vt.listed_words vtable.now) n) }
         ensures inserts { IfOk result (InsertsTable pass.old pass.new (Vt.listed_words vtable.now)) }
-        ensures known { has (front_of pass.old) (Vt.listed_words vtable.now) ≡ true → OnOk result (Looked pass.old pass.new) }
+        ensures known { has (front_of pass.old) (Vt.listed_words vtable.now) ≡ true
+            → OnOk result (Looked pass.old pass.new) }
         ensures distinct { OnOk result (IsDistinct (front_of pass.new)) }
-        ensures err { IfErr result (IsInsertFault pass.old pass.new (Vt.listed_words vtable.now)) }
+        ensures refused { IfErr result (IsInsertFault pass.old pass.new (Vt.listed_words vtable.now)) }
     {
         let table = vtable.list_words(alloc)?;
         self.insert_gated(rt, alloc, pass, &table, &OpenGate, 0, 0)

@@ -4,7 +4,7 @@ ghost use Rattle.std.specs.Prelude.{◌≡◌, ◌<◌, ◌≤◌, ◌+◌, ◌*
 ghost use mathlib.Core.List.{IsPrefix};
 ghost use Rattle.std.specs.Thread.{IsSync};
 ghost use Rattle.stabby_tables.specs.Shares.{share_size};
-ghost use Rattle.stabby_registry.specs.Passes.{IsPassOf, SplitOff, front_of, weight_of, commits_of};
+ghost use Rattle.stabby_registry.specs.Passes.{IsPassOf, SplitOff, GoesOn, front_of, weight_of, commits_of};
 ghost use Rattle.stabby_registry.specs.Work.{share_of, HasWorked, HasStopped, IsReady, IsDone, AreTogether, AreJoined, HaveOutcome};
 
 use crate::catalog::Catalog;
@@ -25,6 +25,7 @@ pub(crate) struct Job {
 }
 
 // Splits a pass off for each worker.
+#[tactic(auto, using(crate::proofs::GoingOn::goes_on_same))]
 fn hand_out(
     alloc: Global,
     registry: &VtBtree<5>,
@@ -40,6 +41,7 @@ fn hand_out(
     ensures weight { weight_of pass.new + workers ≡ weight_of pass.old }
     ensures front { front_of pass.new ≡ front_of pass.old }
     ensures commits { commits_of pass.new ≡ commits_of pass.old }
+    ensures goes_on { GoesOn pass.old pass.new }
     ensures ready { All (IsReady registry.now) result.items }
     ensures count { length result.items ≡ workers }
 {
@@ -70,7 +72,7 @@ fn number_share<G: Gate, H: Wait>(
     ensures pass { IsPassOf registry.now pass.new }
     ensures weight { weight_of pass.new ≡ weight_of pass.old }
     ensures numbers { IfOk result (λ numbers. HasWorked pass.new tables.now numbers.items) }
-    ensures err { IfErr result (HasStopped pass.new tables.now) }
+    ensures refused { IfErr result (HasStopped pass.new tables.now) }
 {
     let Ok(mut numbers) = Vec::with_capacity(alloc, tables.len()) else {
         return Err(RegistryFault::Memory);
@@ -146,7 +148,8 @@ fn run_jobs<G: Gate, H: Threads + Wait + Sync>(
     requires some { 0 < length jobs.items }
     requires ready { All (IsReady registry.now) jobs.items }
     ensures count { length result.items ≡ length jobs.items }
-    ensures done { (i : ℕ) (d : _) → i < length jobs.items → IsDone registry.now (share_of tables.now size i) (slice_index_or result.items i d) }
+    ensures done { (i : ℕ) (d : _) → i < length jobs.items
+        → IsDone registry.now (share_of tables.now size i) (slice_index_or result.items i d) }
 {
     let workers = jobs.len();
     thread::for_each_mut(
@@ -177,6 +180,7 @@ fn together(
 }
 
 // Runs the jobs, joins their passes into this one, and puts their numbers together.
+#[tactic(auto, using(crate::proofs::GoingOn::goes_on_same))]
 fn number_shares<G: Gate, H: Threads + Wait + Sync>(
     rt: &H,
     alloc: Global,
@@ -194,6 +198,7 @@ fn number_shares<G: Gate, H: Threads + Wait + Sync>(
     requires empty { numbers.items ≡ [] }
     ensures pass { IsPassOf registry.now pass.new }
     ensures weight { weight_of pass.new ≡ weight_of pass.old + length jobs.items }
+    ensures goes_on { GoesOn pass.old pass.new }
     ensures joined { AreJoined (front_of pass.old) (commits_of pass.old) pass.new tables.now size (length jobs.items) }
     ensures outcome { HaveOutcome (commits_of pass.old) pass.new tables.now size (length jobs.items) result }
 {
@@ -210,6 +215,7 @@ fn number_shares<G: Gate, H: Threads + Wait + Sync>(
 }
 
 // Numbers the tables by so many workers.
+#[tactic(auto, using(crate::proofs::GoingOn::goes_on_same, crate::proofs::GoingOn::goes_on_then))]
 pub(crate) fn number_tables<G: Gate, H: Threads + Wait + Sync>(
     rt: &H,
     alloc: Global,
@@ -225,8 +231,11 @@ pub(crate) fn number_tables<G: Gate, H: Threads + Wait + Sync>(
     requires few { length tables.now < 2 ^ 63 }
     ensures pass { IsPassOf registry.now pass.new }
     ensures weight { weight_of pass.new ≡ weight_of pass.old }
-    ensures joined { AreJoined (front_of pass.old) (commits_of pass.old) pass.new tables.now (share_size (length tables.now) workers) workers }
-    ensures outcome { HaveOutcome (commits_of pass.old) pass.new tables.now (share_size (length tables.now) workers) workers result }
+    ensures goes_on { GoesOn pass.old pass.new }
+    ensures joined { AreJoined (front_of pass.old) (commits_of pass.old) pass.new tables.now
+        (share_size (length tables.now) workers) workers }
+    ensures outcome { HaveOutcome (commits_of pass.old) pass.new tables.now
+        (share_size (length tables.now) workers) workers result }
 {
     let Ok(numbers) = Vec::with_capacity(alloc, tables.len()) else {
         return Err(RegistryFault::Memory);

@@ -9,3 +9,5 @@ pub mod Runs
 pub mod Texts
 pub mod Bad
 pub mod Decides
+pub mod OneWorker
+pub mod SmallShares

@@ -1,10 +1,10 @@
 -- The laws of the definitions.
-use Rattle.std.specs.Prelude.{◌≡◌, ◌↔◌, ℕ, ◌<◌, ◌≤◌, ◌⊎◌, true, false, List, [], ◌∷◌, map}
+use Rattle.std.specs.Prelude.{◌≡◌, ◌↔◌, ℕ, ◌<◌, ◌≤◌, ◌⊎◌, true, false, List, [], ◌∷◌, length, map, fold}
 use Rattle.std.specs.Cmp.Lexicographic.{slice_cmp}
 use Rattle.std.specs.Ordering.{nat_cmp, is_lt, is_eq}
 use Rattle.stabby_tables.specs.Tables.{Table, is_before, is_same}
-use Rattle.stabby_tables.specs.Lists.{has, distinct, place, increasing, IsRising, ordered, rank, entry_place, HoldsEachOnce, AppendsAbsent}
-use Rattle.stabby_tables.specs.Shares.{share_size, InShare}
+use Rattle.stabby_tables.specs.Lists.{has, with_table, distinct, place, increasing, IsRising, ordered, rank, entry_place, HoldsEachOnce, AppendsAbsent}
+use Rattle.stabby_tables.specs.Shares.{InShare, IsFirstAt, IsFirstInShare}
 use Rattle.stabby_tables.specs.Lines.{IsText, IsLines, IsBadLine}
 
 -- `is_same` is equality, and of two tables one is before the other or they are the same
@@ -47,3 +47,47 @@ pub record RanksArePlaces : Type 0 where
       → map (λ t. entry_place (ordered f) (place f t)) ts ≡ map (λ t. entry_place (ordered g) (place g t)) ts
   pub same_tables : (ts f g : List Table) → AppendsAbsent [] ts f → AppendsAbsent [] ts g
       → map (λ (e : Table × ℕ). e.0) (ordered f) ≡ map (λ e. e.0) (ordered g)
+
+-- with one worker the tables that were absent stand in the order of their first appearance
+pub record StandAsTheyAppeared : Type 0 where
+  pub one_worker : (old ts new : List Table) → AppendsAbsent old ts new → IsFirstInShare (map (place new) ts) 1 (length old) → new ≡ fold with_table old ts
+
+-- ten places among four workers: three, three, three and one
+pub record SharesOfTen : Type 0 where
+  pub first_place : InShare 10 4 0 0
+  pub last_of_first : InShare 10 4 0 2
+  pub none_of_next : InShare 10 4 0 3 → ⊥
+  pub next : InShare 10 4 1 3
+  pub none_of_former : InShare 10 4 1 2 → ⊥
+  pub last_place : InShare 10 4 3 9
+  pub none_past_the_end : InShare 10 4 3 10 → ⊥
+
+-- the place has only smaller numbers before it in its share
+pub record FirstPlaces : Type 0 where
+  pub nothing_before : IsFirstAt (1 ∷ 0 ∷ []) 1 0
+  pub smaller_before : IsFirstAt (0 ∷ 1 ∷ []) 1 1
+  pub greater_before : IsFirstAt (1 ∷ 0 ∷ []) 1 1 → ⊥
+  pub equal_before : IsFirstAt (0 ∷ 0 ∷ []) 1 1 → ⊥
+  pub in_another_share : IsFirstAt (1 ∷ 0 ∷ []) 2 1
+
+-- numbers from a limit on are met in rising order, in each share
+pub record FirstNumbers : Type 0 where
+  pub repeat : IsFirstInShare (0 ∷ 1 ∷ 0 ∷ []) 1 0
+  pub falling : IsFirstInShare (1 ∷ 0 ∷ []) 1 0 → ⊥
+  pub falling_across_shares : IsFirstInShare (1 ∷ 0 ∷ []) 2 0
+  pub below_the_limit : IsFirstInShare (1 ∷ 0 ∷ []) 1 1
+  pub from_the_limit : IsFirstInShare (0 ∷ 2 ∷ 1 ∷ []) 1 2
+  pub at_the_limit : IsFirstInShare (0 ∷ 2 ∷ 1 ∷ []) 1 1 → ⊥
+
+-- ---- small lists of tables
+abbrev pub with_a_repeat : List Table
+with_a_repeat = (1 ∷ 2 ∷ []) ∷ (3 ∷ []) ∷ (1 ∷ 2 ∷ []) ∷ []
+
+abbrev pub fives_and_three : List Table
+fives_and_three = (5 ∷ []) ∷ (3 ∷ []) ∷ (5 ∷ []) ∷ []
+
+abbrev pub greatest : Table
+greatest = 18446744073709551615 ∷ []
+
+abbrev pub with_prefixes : List Table
+with_prefixes = (1 ∷ []) ∷ (1 ∷ 0 ∷ []) ∷ (0 ∷ 9 ∷ []) ∷ [] ∷ []

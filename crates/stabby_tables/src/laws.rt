@@ -1,6 +1,6 @@
 //! Laws of the definitions, each the contract of a function that does nothing.
 
-ghost use Rattle.std.specs.Prelude.{◌≡◌, List, ℕ, [], ◌∷◌, true};
+ghost use Rattle.std.specs.Prelude.{◌≡◌, List, ℕ, [], ◌∷◌, true, codes};
 ghost use Rattle.std.specs.Str.Parse.{digits_value};
 ghost use Rattle.stabby_tables.specs.Tables.{is_before};
 ghost use Rattle.stabby_tables.specs.Lists.{distinct};
@@ -8,7 +8,9 @@ ghost use Rattle.stabby_tables.specs.Shares.{share_size};
 ghost use Rattle.stabby_tables.specs.Pieces.{lines_of};
 ghost use Rattle.stabby_tables.specs.Lines.{IsText};
 ghost use Rattle.stabby_tables.specs.Reports.{rank_report, number_report};
-ghost use Rattle.stabby_tables.specs.Laws.{IsTotalOrder, IsOrderOfSlices, KeepMembers, IsTheRisingList, AreUnique, ExactlyOneHolds, RanksArePlaces};
+ghost use Rattle.stabby_tables.specs.Laws.{IsTotalOrder, IsOrderOfSlices, KeepMembers, IsTheRisingList, AreUnique, ExactlyOneHolds};
+ghost use Rattle.stabby_tables.specs.Laws.{RanksArePlaces, StandAsTheyAppeared, SharesOfTen, FirstPlaces, FirstNumbers};
+ghost use Rattle.stabby_tables.specs.Laws.{with_a_repeat, fives_and_three, greatest, with_prefixes};
 
 /// Tables are totally ordered, by Rust's order of slices.
 pub fn tables_are_ordered()
@@ -41,15 +43,28 @@ pub fn ranks_are_places()
     ensures { RanksArePlaces }
 {}
 
-/// The reports of small inputs, byte by byte.
+/// What one worker numbers stands in the order in which it first appeared.
+pub fn one_worker_keeps_the_order()
+    ensures { StandAsTheyAppeared }
+{}
+
+/// Who has which places, and which numbers are met first in a share, for small lists.
+pub fn shares_of_small_lists()
+    ensures shares { SharesOfTen }
+    ensures places { FirstPlaces }
+    ensures numbers { FirstNumbers }
+{}
+
+/// The reports of small inputs, as text.
 pub fn reports_of_small_inputs()
-    ensures empty_input { rank_report [] ≡ [] }
-    ensures repeat_gets_one_rank { rank_report ((1 ∷ 2 ∷ []) ∷ (3 ∷ []) ∷ (1 ∷ 2 ∷ []) ∷ []) ≡ 48 ∷ 10 ∷ 49 ∷ 10 ∷ 48 ∷ 10 ∷ 49 ∷ 32 ∷ 50 ∷ 10 ∷ 51 ∷ 10 ∷ [] }
-    ensures empty_tables { rank_report ([] ∷ [] ∷ (5 ∷ []) ∷ []) ≡ 48 ∷ 10 ∷ 48 ∷ 10 ∷ 49 ∷ 10 ∷ 10 ∷ 53 ∷ 10 ∷ [] }
-    ensures numbers_in_order_of_insertion { number_report ((5 ∷ []) ∷ (3 ∷ []) ∷ (5 ∷ []) ∷ []) (distinct ((5 ∷ []) ∷ (3 ∷ []) ∷ (5 ∷ []) ∷ [])) ≡ 48 ∷ 10 ∷ 49 ∷ 10 ∷ 48 ∷ 10 ∷ 53 ∷ 10 ∷ 51 ∷ 10 ∷ [] }
-    ensures greatest_word { rank_report ((18446744073709551615 ∷ []) ∷ (18446744073709551615 ∷ []) ∷ []) ≡ 48 ∷ 10 ∷ 48 ∷ 10 ∷ 49 ∷ 56 ∷ 52 ∷ 52 ∷ 54 ∷ 55 ∷ 52 ∷ 52 ∷ 48 ∷ 55 ∷ 51 ∷ 55 ∷ 48 ∷ 57 ∷ 53 ∷ 53 ∷ 49 ∷ 54 ∷ 49 ∷ 53 ∷ 10 ∷ [] }
-    ensures prefix_before_longer { rank_report ((1 ∷ []) ∷ (1 ∷ 0 ∷ []) ∷ (0 ∷ 9 ∷ []) ∷ [] ∷ []) ≡ 50 ∷ 10 ∷ 51 ∷ 10 ∷ 49 ∷ 10 ∷ 48 ∷ 10 ∷ 10 ∷ 48 ∷ 32 ∷ 57 ∷ 10 ∷ 49 ∷ 10 ∷ 49 ∷ 32 ∷ 48 ∷ 10 ∷ [] }
-    ensures single_zero { rank_report ((0 ∷ []) ∷ []) ≡ 48 ∷ 10 ∷ 48 ∷ 10 ∷ [] }
+    ensures empty_input { rank_report [] ≡ codes "" }
+    ensures repeat_gets_one_rank { rank_report with_a_repeat ≡ codes "0\n1\n0\n1 2\n3\n" }
+    ensures empty_tables { rank_report ([] ∷ [] ∷ (5 ∷ []) ∷ []) ≡ codes "0\n0\n1\n\n5\n" }
+    ensures numbers_in_order_of_insertion { number_report fives_and_three (distinct fives_and_three)
+        ≡ codes "0\n1\n0\n5\n3\n" }
+    ensures greatest_word { rank_report (greatest ∷ greatest ∷ []) ≡ codes "0\n0\n18446744073709551615\n" }
+    ensures prefix_before_longer { rank_report with_prefixes ≡ codes "2\n3\n1\n0\n\n0 9\n1\n1 0\n" }
+    ensures single_zero { rank_report ((0 ∷ []) ∷ []) ≡ codes "0\n0\n" }
 {}
 
 /// What the definitions say of small and odd inputs.

@@ -1,8 +1,8 @@
 //! Texts that grow.
-ghost use Rattle.std.specs.Prelude.{◌≡◌, ◌<◌, ◌↔◌, length, IsOk, IfOk, IfErr, OnOk, OnErr, IsErrOf, slice_index};
+ghost use Rattle.std.specs.Prelude.{◌≡◌, ◌<◌, ◌↔◌, [], length, IsOk, IfOk, IfErr, OnOk, OnErr, IsErrOf, slice_index};
 ghost use Rattle.std.specs.Str.{IsUtf8};
 ghost use Rattle.stabby_layout.specs.declared.error.AllocationError.TheVariants.{Memory, Range};
-ghost use Rattle.stabby_vec.specs.Sequence.{sequence_len, empty_with, with_extended, HasRoomFor, AsksPastBound, GREATEST_CAPACITY};
+ghost use Rattle.stabby_vec.specs.Sequence.{ClonesAlways, sequence_len, empty_with, with_extended, HasRoomFor, AsksPastBound, GREATEST_CAPACITY};
 ghost use Rattle.stabby_text.specs.Texts.{exact_text, with_byte};
 
 use stabby_layout::AllocationError;
@@ -49,10 +49,11 @@ impl<A: Allocator> String<A> {
         }
     }
 
-    /// The text `value`, whose length is the capacity.
+    /// The text `value`, whose length is the capacity. The empty text takes no memory.
     pub fn from_str(alloc: A, value: &str) -> Result<Self, AllocationError>
         ensures ok { IfOk result (λ text. text ≡ exact_text value.now) }
         ensures range { IsErrOf result Range ↔ (GREATEST_CAPACITY < length value.now) }
+        ensures empty { value.now ≡ [] → IsOk result }
     {
         let bytes = Vec::from_slice(alloc, value.as_bytes())?;
         Ok(String { bytes })
@@ -112,12 +113,14 @@ impl<A: Allocator> String<A> {
 
     /// The same text, whose length is the capacity.
     ///
-    /// The only error is `Memory`, also where a clone of the allocator is refused.
+    /// The only error is `Memory`, also where a clone of the allocator is refused. The empty text
+    /// takes no memory but what that clone takes.
     pub fn copy(&self) -> Result<Self, AllocationError>
     where
         A: Clone,
         ensures ok { IfOk result (λ copy. copy ≡ exact_text self.now.items) }
         ensures memory { IfErr result (λ error. error ≡ Memory) }
+        ensures empty { self.now.items ≡ [] → ClonesAlways A.is_infallible → IsOk result }
     {
         let bytes = self.bytes.copy()?;
         Ok(String { bytes })

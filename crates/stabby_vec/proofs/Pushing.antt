@@ -1,5 +1,5 @@
 -- Pushing item by item.
-use Rattle.std.proofs.Common.{◌≡◌, List, [], ◌∷◌, ◌++◌, refl}
+use Rattle.std.proofs.Common.{◌≡◌, List, [], ◌∷◌, ◌++◌, refl, sym, ap, ◌∙◌, Result, Ok, Err}
 use Rattle.stabby_vec.specs.Sequence.{Sequence, with_pushed, pushed}
 use Rattle.stabby_vec.specs.Singles.{Single, single_pushed, single_pushed_all}
 
@@ -24,3 +24,12 @@ module _ {T : Type 0} where
   pub single_pushed_none : (s : Single T) → single_pushed_all s [] ≡ s
   unfolding single_pushed_all
   single_pushed_none s = refl
+
+module _ {T E : Type 0} where
+  abbrev error_or : E → Result T E → E
+  error_or default (Ok value) = default
+  error_or default (Err error) = error
+
+  -- an answer has one error
+  pub error_is : (r : Result T E) (x y : E) → r ≡ Err x → r ≡ Err y → x ≡ y
+  error_is r x y one other = ap (error_or x) (sym one ∙ other)

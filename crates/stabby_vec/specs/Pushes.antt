@@ -3,7 +3,7 @@ use Rattle.std.specs.Prelude.{◌≡◌, List, Option, Some, ◌↔◌}
 use Rattle.std.specs.Iterator.{Drains, YieldsThen}
 use Rattle.stabby_layout.specs.declared.error.AllocationError.{AllocationError}
 use Rattle.stabby_layout.specs.declared.error.AllocationError.TheVariants.{Range}
-use Rattle.stabby_vec.specs.Sequence.{Sequence, pushed, push_room, IsFull, AsksPastBound}
+use Rattle.stabby_vec.specs.Sequence.{Sequence, pushed, IsFull, PushPastBound}
 
 module _ {T I : Type 0} (steps : I → Option T → I → Type 0) (iter : I) where
   -- every item was pushed, up to the end of the iterator
@@ -21,4 +21,8 @@ module _ {T I : Type 0} (steps : I → Option T → I → Type 0) (iter : I) whe
     pub yielded : YieldsThen steps iter items (Some refused) rest
     pub pushed_before : new ≡ pushed old items
     pub full : IsFull new
-    pub range : error ≡ Range ↔ AsksPastBound new (push_room new)
+    pub range : error ≡ Range ↔ PushPastBound new
+
+  -- some item was refused, with those before it pushed
+  abbrev pub RefusesFrom : Sequence T → AllocationError → Type 0
+  RefusesFrom old error = (reached : Sequence T) × PushedUntil old reached error

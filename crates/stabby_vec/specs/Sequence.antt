@@ -18,6 +18,10 @@ sequence_code {T} of_item =
 abbrev pub GREATEST_CAPACITY : ℕ
 GREATEST_CAPACITY = 2 ^ 64 - 2
 
+-- every value has a clone that is never refused, as `is_infallible` of its type says
+abbrev pub ClonesAlways : {X : Type 0} → (X → Type 0) → Type 0
+ClonesAlways {X} is_infallible = (x : X) → is_infallible x
+
 module _ {T : Type 0} where
   -- no items, and room for so many
   abbrev pub empty_with : ℕ → Sequence T
@@ -54,6 +58,10 @@ module _ {T : Type 0} where
   -- the room that a push asks for
   abbrev pub push_room : Sequence T → ℕ
   push_room s = if length s.items == s.capacity then growth s else 0
+
+  -- the room that its next push asks for is past the greatest capacity
+  abbrev pub PushPastBound : Sequence T → Type 0
+  PushPastBound s = AsksPastBound s (push_room s)
 
   -- the sequence with x behind its items
   abbrev pub with_last : Sequence T → T → Sequence T

@@ -1,11 +1,11 @@
 -- What a contract sees of a `SingleOrVec`.
-use Rattle.std.specs.Prelude.{◌≡◌, ℕ, ◌+◌, List, [], ◌∷◌, ◌++◌, length, take, Option, Some, Bool, true, false, refl, if◌then◌else◌, ◌==◌, ◌↔◌}
+use Rattle.std.specs.Prelude.{◌≡◌, ℕ, ◌+◌, ◌<◌, List, [], ◌∷◌, ◌++◌, length, take, Option, Some, Bool, true, false, refl, if◌then◌else◌, ◌==◌, ◌↔◌}
 use Rattle.std.specs.List.{refill}
 use Rattle.std.specs.Coded.{Coded, code_by, coded×, coded_ℕ, coded_bool, coded_list}
 use Rattle.std.specs.Iterator.{Drains, YieldsThen}
 use Rattle.stabby_layout.specs.declared.error.AllocationError.{AllocationError}
 use Rattle.stabby_layout.specs.declared.error.AllocationError.TheVariants.{Range}
-use Rattle.stabby_vec.specs.Sequence.{Sequence, empty_with, with_pushed, with_room, push_room, IsFull, AsksPastBound}
+use Rattle.stabby_vec.specs.Sequence.{Sequence, empty_with, with_pushed, with_room, IsFull, PushPastBound}
 
 -- the items, the capacity, and whether the one item lies in the value itself
 pub record Single (T : Type 0) : Type 0 where
@@ -73,7 +73,7 @@ module _ {T I : Type 0} (steps : I → Option T → I → Type 0) (iter : I) whe
     pub pushed_all : new ≡ single_pushed_all old items
 
   -- the items before the first refused one were pushed, and `Range` says exactly that the
-  -- capacity its push asked for is past the greatest
+  -- capacity its push asked for is past the greatest; at capacity 0 no item is refused
   pub record SinglePushedUntil (old new : Single T) (error : AllocationError) : Type 0 where
     pub items : List T
     pub refused : T
@@ -81,4 +81,5 @@ module _ {T I : Type 0} (steps : I → Option T → I → Type 0) (iter : I) whe
     pub yielded : YieldsThen steps iter items (Some refused) rest
     pub pushed_before : new ≡ single_pushed_all old items
     pub full : IsFull (sequence_of new)
-    pub range : error ≡ Range ↔ AsksPastBound (sequence_of new) (push_room (sequence_of new))
+    pub above_zero : 0 < new.capacity
+    pub range : error ≡ Range ↔ PushPastBound (sequence_of new)

@@ -1,10 +1,10 @@
 //! A list that does not grow.
-ghost use Rattle.std.specs.Prelude.{◌≡◌, ◌<◌, ◌≤◌, ◌↔◌, [], length, IsTrue, IsErr, IfOk, IfErr, OnOk, OnErr, IsErrOf};
+ghost use Rattle.std.specs.Prelude.{◌≡◌, ◌<◌, ◌≤◌, ◌↔◌, [], length, IsTrue, IsOk, IsErr, IfOk, IfErr, OnOk, OnErr, IsErrOf};
 ghost use Rattle.std.specs.Borrow.{sem};
 ghost use Rattle.std.specs.Iterator.{IsFinite};
 ghost use Rattle.stabby_layout.specs.declared.error.AllocationError.TheVariants.{Range};
-ghost use Rattle.stabby_vec.specs.Sequence.{Sequence, sequence_len, empty_with, with_last, IsFull, GREATEST_CAPACITY};
-ghost use Rattle.stabby_vec.specs.Pushes.{PushedAll, PushedUntil};
+ghost use Rattle.stabby_vec.specs.Sequence.{sequence_len, empty_with, with_last, IsFull, GREATEST_CAPACITY};
+ghost use Rattle.stabby_vec.specs.Pushes.{PushedAll, RefusesFrom};
 
 use crate::{IntoIter, Vec};
 use stabby_layout::AllocationError;
@@ -32,21 +32,24 @@ impl<T, A: Allocator> BoxedSlice<T, A> {
 
     /// An empty list with room for exactly `capacity` items.
     ///
-    /// `Range` comes exactly at `usize::MAX`, which no capacity can be.
+    /// Room for no items takes no memory. `Range` comes exactly at `usize::MAX`, which no capacity
+    /// can be.
     pub fn with_capacity_in(alloc: A, capacity: usize) -> Result<Self, AllocationError>
         ensures ok { IfOk result (λ list. list ≡ empty_with capacity) }
         ensures range { IsErrOf result Range ↔ (GREATEST_CAPACITY < capacity) }
+        ensures empty { capacity ≡ 0 → IsOk result }
     {
         let list = Vec::try_with_capacity_in(alloc, capacity)?;
         Ok(BoxedSlice { list })
     }
 
-    /// The items of `value`, with their number as the capacity.
+    /// The items of `value`, with their number as the capacity. No items take no memory.
     pub fn from_slice(alloc: A, value: &[T]) -> Result<Self, AllocationError>
     where
         T: Copy,
         ensures ok { IfOk result (λ list. list ≡ record { items = value.now; capacity = length value.now }) }
         ensures range { IsErrOf result Range ↔ (GREATEST_CAPACITY < length value.now) }
+        ensures empty { value.now ≡ [] → IsOk result }
     {
         let list = Vec::from_slice(alloc, value)?;
         Ok(BoxedSlice { list })
@@ -60,7 +63,7 @@ impl<T, A: Allocator> BoxedSlice<T, A> {
         requires can_next { I.can_next iter }
         requires ends { IsFinite (I.remaining iter) }
         ensures ok { IfOk result (λ list. PushedAll I.next_gives iter (empty_with 0) list) }
-        ensures err { IfErr result (λ error. (reached : Sequence T) × PushedUntil I.next_gives iter (empty_with 0) reached error) }
+        ensures err { IfErr result (λ error. RefusesFrom I.next_gives iter (empty_with 0) error) }
     {
         let list = Vec::try_from_iter(alloc, iter)?;
         Ok(BoxedSlice { list })

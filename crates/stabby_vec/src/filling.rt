@@ -1,9 +1,9 @@
 //! Adding many items, and making a list of them.
-ghost use Rattle.std.specs.Prelude.{◌≡◌, ◌<◌, ◌↔◌, length, IsOk, IfOk, IfErr, OnOk, OnErr, IsErrOf};
+ghost use Rattle.std.specs.Prelude.{◌≡◌, ◌<◌, ◌↔◌, [], length, IsOk, IfOk, IfErr, OnOk, OnErr, IsErrOf};
 ghost use Rattle.std.specs.Iterator.{IsFinite};
 ghost use Rattle.stabby_layout.specs.declared.error.AllocationError.TheVariants.{Memory, Range};
-ghost use Rattle.stabby_vec.specs.Sequence.{Sequence, sequence_len, empty_with, HasRoomFor, AsksPastBound, with_extended, GREATEST_CAPACITY};
-ghost use Rattle.stabby_vec.specs.Pushes.{PushedAll, PushedUntil};
+ghost use Rattle.stabby_vec.specs.Sequence.{ClonesAlways, sequence_len, empty_with, HasRoomFor, AsksPastBound, with_extended, GREATEST_CAPACITY};
+ghost use Rattle.stabby_vec.specs.Pushes.{PushedAll, PushedUntil, RefusesFrom};
 
 use crate::Vec;
 use stabby_layout::AllocationError;
@@ -38,7 +38,7 @@ impl<T, A: Allocator> Vec<T, A> {
         requires can_next { I.can_next iter }
         requires ends { IsFinite (I.remaining iter) }
         ensures ok { IfOk result (λ list. PushedAll I.next_gives iter (empty_with 0) list) }
-        ensures err { IfErr result (λ error. (reached : Sequence T) × PushedUntil I.next_gives iter (empty_with 0) reached error) }
+        ensures err { IfErr result (λ error. RefusesFrom I.next_gives iter (empty_with 0) error) }
     {
         let mut list = Vec::new_in(alloc);
         list.extend(iter)?;
@@ -73,12 +73,13 @@ impl<T, A: Allocator> Vec<T, A> {
         self.try_copy_extend(slice)
     }
 
-    /// The items of `value`, with their number as the capacity.
+    /// The items of `value`, with their number as the capacity. No items take no memory.
     pub fn from_slice(alloc: A, value: &[T]) -> Result<Self, AllocationError>
     where
         T: Copy,
         ensures ok { IfOk result (λ list. list ≡ record { items = value.now; capacity = length value.now }) }
         ensures range { IsErrOf result Range ↔ (GREATEST_CAPACITY < length value.now) }
+        ensures empty { value.now ≡ [] → IsOk result }
     {
         let mut list = Vec::try_with_capacity_in(alloc, value.len())?;
         for item in value {
@@ -90,6 +91,7 @@ impl<T, A: Allocator> Vec<T, A> {
     /// A list with clones of the items, and their number as its capacity.
     ///
     /// The only error is `Memory`, also where a clone of an item or of the allocator is refused.
+    /// No items take no memory but what a clone of the allocator takes.
     pub fn copy(&self) -> Result<Self, AllocationError>
     where
         T: Clone + Drop,
@@ -97,6 +99,7 @@ impl<T, A: Allocator> Vec<T, A> {
         requires clones_are_equal { (x y : T) → T.is_clone x y → y ≡ x }
         ensures ok { IfOk result (λ list. list ≡ record { items = self.now.items; capacity = sequence_len self.now }) }
         ensures memory { IfErr result (λ error. error ≡ Memory) }
+        ensures empty { self.now.items ≡ [] → ClonesAlways A.is_infallible → IsOk result }
     {
         let Ok(alloc) = self.inner.allocator().clone() else {
             return Err(AllocationError::Memory);

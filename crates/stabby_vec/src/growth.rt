@@ -1,7 +1,7 @@
 //! Room for more items, and pushing one.
 ghost use Rattle.std.specs.Prelude.{◌≡◌, ◌<◌, ◌↔◌, IsOk, IsErr, IfOk, IfErr, OnOk, OnErr, IsErrOf};
 ghost use Rattle.stabby_layout.specs.declared.error.AllocationError.TheVariants.{Memory, Range};
-ghost use Rattle.stabby_vec.specs.Sequence.{empty_with, HasRoomFor, IsFull, AsksPastBound, with_room, with_last, with_pushed, push_room, GREATEST_CAPACITY};
+ghost use Rattle.stabby_vec.specs.Sequence.{empty_with, HasRoomFor, IsFull, AsksPastBound, with_room, with_last, with_pushed, PushPastBound, GREATEST_CAPACITY};
 
 use crate::Vec;
 use stabby_layout::{AllocationError, NonMaxUsize};
@@ -10,10 +10,12 @@ use std::alloc::Allocator;
 impl<T, A: Allocator> Vec<T, A> {
     /// An empty list with room for exactly `capacity` items.
     ///
-    /// `Range` comes exactly at `usize::MAX`, which no capacity can be.
+    /// Room for no items takes no memory. `Range` comes exactly at `usize::MAX`, which no capacity
+    /// can be.
     pub fn try_with_capacity_in(alloc: A, capacity: usize) -> Result<Self, AllocationError>
         ensures ok { IfOk result (λ list. list ≡ empty_with capacity) }
         ensures range { IsErrOf result Range ↔ (GREATEST_CAPACITY < capacity) }
+        ensures empty { capacity ≡ 0 → IsOk result }
     {
         if capacity == usize::MAX {
             return Err(AllocationError::Range);
@@ -28,6 +30,7 @@ impl<T, A: Allocator> Vec<T, A> {
     pub fn with_capacity_in(alloc: A, capacity: usize) -> Result<Self, AllocationError>
         ensures ok { IfOk result (λ list. list ≡ empty_with capacity) }
         ensures range { IsErrOf result Range ↔ (GREATEST_CAPACITY < capacity) }
+        ensures empty { capacity ≡ 0 → IsOk result }
     {
         Vec::try_with_capacity_in(alloc, capacity)
     }
@@ -80,8 +83,8 @@ impl<T, A: Allocator> Vec<T, A> {
         ensures ok { OnOk result (self.new ≡ with_pushed self.old value) }
         ensures unchanged { OnErr result (self.new ≡ self.old) }
         ensures value_back { IfErr result (λ refusal. refusal.0 ≡ value) }
-        ensures range { IfErr result (λ refusal. refusal.1 ≡ Range ↔ AsksPastBound self.old (push_room self.old)) }
-        ensures refused { AsksPastBound self.old (push_room self.old) → IsErr result }
+        ensures range { IfErr result (λ refusal. refusal.1 ≡ Range ↔ PushPastBound self.old) }
+        ensures refused { PushPastBound self.old → IsErr result }
         ensures only_full { IsErr result → IsFull self.old }
         ensures spare { HasRoomFor self.old 1 → IsOk result }
     {
@@ -106,7 +109,7 @@ impl<T, A: Allocator> Vec<T, A> {
         T: Drop,
         ensures ok { OnOk result (self.new ≡ with_pushed self.old value) }
         ensures unchanged { OnErr result (self.new ≡ self.old) }
-        ensures range { IsErrOf result Range ↔ AsksPastBound self.old (push_room self.old) }
+        ensures range { IsErrOf result Range ↔ PushPastBound self.old }
         ensures only_full { IsErr result → IsFull self.old }
         ensures spare { HasRoomFor self.old 1 → IsOk result }
     {

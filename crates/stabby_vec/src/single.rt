@@ -46,10 +46,12 @@ impl<T, A: Allocator> SingleOrVec<T, A> {
 
     /// An empty `Vec` form with room for exactly `capacity` items.
     ///
-    /// `Range` comes exactly at `usize::MAX`, which no capacity can be.
+    /// Room for no items takes no memory. `Range` comes exactly at `usize::MAX`, which no capacity
+    /// can be.
     pub fn try_with_capacity_in(alloc: A, capacity: usize) -> Result<Self, AllocationError>
         ensures ok { IfOk result (λ list. list ≡ listed (empty_with capacity)) }
         ensures range { IsErrOf result Range ↔ (GREATEST_CAPACITY < capacity) }
+        ensures empty { capacity ≡ 0 → IsOk result }
     {
         let list = Vec::try_with_capacity_in(alloc, capacity)?;
         Ok(SingleOrVec::from_vec(list))
@@ -59,6 +61,7 @@ impl<T, A: Allocator> SingleOrVec<T, A> {
     pub fn with_capacity_in(alloc: A, capacity: usize) -> Result<Self, AllocationError>
         ensures ok { IfOk result (λ list. list ≡ listed (empty_with capacity)) }
         ensures range { IsErrOf result Range ↔ (GREATEST_CAPACITY < capacity) }
+        ensures empty { capacity ≡ 0 → IsOk result }
     {
         SingleOrVec::try_with_capacity_in(alloc, capacity)
     }

@@ -1,8 +1,8 @@
 //! Pushing onto a `SingleOrVec`, making room in it, and turning it into a `Vec`.
-ghost use Rattle.std.specs.Prelude.{◌≡◌, ◌↔◌, [], ◌∷◌, length, IsOk, IsErr, IfOk, IfErr, OnOk, OnErr, IsErrOf, false};
+ghost use Rattle.std.specs.Prelude.{◌≡◌, ◌<◌, ◌↔◌, [], ◌∷◌, length, IsOk, IsErr, IfOk, IfErr, OnOk, OnErr, IsErrOf, true, false};
 ghost use Rattle.std.specs.Iterator.{IsFinite};
 ghost use Rattle.stabby_layout.specs.declared.error.AllocationError.TheVariants.{Memory, Range};
-ghost use Rattle.stabby_vec.specs.Sequence.{push_room, HasRoomFor, IsFull, AsksPastBound};
+ghost use Rattle.stabby_vec.specs.Sequence.{ClonesAlways, HasRoomFor, IsFull, AsksPastBound, PushPastBound};
 ghost use Rattle.stabby_vec.specs.Singles.{sequence_of, single_pushed, single_with_room, single_truncated, single_copied, single_as_vec, SinglePushedAll, SinglePushedUntil};
 
 use crate::single_parts::{Parts, Slot};
@@ -23,9 +23,10 @@ impl<T, A: Allocator> SingleOrVec<T, A> {
         ensures ok { OnOk result (self.new ≡ single_pushed self.old item) }
         ensures unchanged { OnErr result (self.new ≡ self.old) }
         ensures value_back { IfErr result (λ refusal. refusal.0 ≡ item) }
-        ensures range { IfErr result (λ refusal. refusal.1 ≡ Range ↔ AsksPastBound (sequence_of self.old) (push_room (sequence_of self.old))) }
-        ensures refused { AsksPastBound (sequence_of self.old) (push_room (sequence_of self.old)) → IsErr result }
+        ensures range { IfErr result (λ refusal. refusal.1 ≡ Range ↔ PushPastBound (sequence_of self.old)) }
+        ensures refused { PushPastBound (sequence_of self.old) → IsErr result }
         ensures only_full { IsErr result → IsFull (sequence_of self.old) }
+        ensures above_zero { IsErr result → 0 < self.old.capacity }
         ensures spare { HasRoomFor (sequence_of self.old) 1 → IsOk result }
         ensures inline { self.old.capacity ≡ 0 → IsOk result }
     {
@@ -55,8 +56,9 @@ impl<T, A: Allocator> SingleOrVec<T, A> {
         T: Drop,
         ensures ok { OnOk result (self.new ≡ single_pushed self.old value) }
         ensures unchanged { OnErr result (self.new ≡ self.old) }
-        ensures range { IsErrOf result Range ↔ AsksPastBound (sequence_of self.old) (push_room (sequence_of self.old)) }
+        ensures range { IsErrOf result Range ↔ PushPastBound (sequence_of self.old) }
         ensures only_full { IsErr result → IsFull (sequence_of self.old) }
+        ensures above_zero { IsErr result → 0 < self.old.capacity }
         ensures spare { HasRoomFor (sequence_of self.old) 1 → IsOk result }
         ensures inline { self.old.capacity ≡ 0 → IsOk result }
     {
@@ -131,7 +133,7 @@ impl<T, A: Allocator> SingleOrVec<T, A> {
     /// Pushes each item of `iter`, as `push` does.
     ///
     /// The first refused item ends the call: the items before it stay, and it is dropped with
-    /// what `iter` still had.
+    /// what `iter` still had. The first item of a list of capacity 0 is never refused.
     #[tactic(auto, using(crate::proofs::Pushing::single_pushed_more, crate::proofs::Pushing::single_pushed_none))]
     pub fn extend<I: Iterator<Item = T>>(&mut self, iter: I) -> Result<(), AllocationError>
     where
@@ -151,6 +153,7 @@ impl<T, A: Allocator> SingleOrVec<T, A> {
     /// A list of the same form with clones of the items; as a `Vec` its capacity is their number.
     ///
     /// The only error is `Memory`, also where a clone of an item or of the allocator is refused.
+    /// No items, and a lone inline one, take no memory but what those clones take.
     pub fn copy(&self) -> Result<Self, AllocationError>
     where
         T: Clone + Drop,
@@ -158,6 +161,8 @@ impl<T, A: Allocator> SingleOrVec<T, A> {
         requires clones_are_equal { (x y : T) → T.is_clone x y → y ≡ x }
         ensures ok { IfOk result (λ list. list ≡ single_copied self.now) }
         ensures memory { IfErr result (λ error. error ≡ Memory) }
+        ensures empty { self.now.items ≡ [] → ClonesAlways A.is_infallible → IsOk result }
+        ensures inline { self.now.inline ≡ true → ClonesAlways T.is_infallible → ClonesAlways A.is_infallible → IsOk result }
     {
         let list = self.parts.list.copy()?;
         let slot = match &self.parts.slot {
@@ -220,6 +225,7 @@ fn copy_of<T: Clone + Drop>(one: &ArrayVec<T, 1>) -> Result<ArrayVec<T, 1>, Allo
     requires full { length one.now.items ≡ 1 }
     ensures ok { IfOk result (λ copy. copy.items ≡ one.now.items) }
     ensures memory { IfErr result (λ error. error ≡ Memory) }
+    ensures infallible { ClonesAlways T.is_infallible → IsOk result }
 {
     let Ok(item) = one.as_slice()[0].clone() else {
         return Err(AllocationError::Memory);

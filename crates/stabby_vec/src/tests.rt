@@ -408,3 +408,27 @@ fn a_list_lends_its_allocator(rt: HostRuntime) -> Result<(), Fail> {
     assert_eq!(rt; other.as_slice(), [1u8, 2].as_slice());
     Ok(())
 }
+
+#[test]
+fn nothing_takes_no_memory(rt: HostRuntime) {
+    let Ok(list): Result<Vec<u8, Global>, AllocationError> = Vec::with_capacity_in(rt.alloc(), 0)
+    else {
+        unreachable!();
+    };
+    let Ok(copy) = list.copy() else {
+        unreachable!();
+    };
+    assert!(rt; copy.is_empty());
+    let Ok(boxed) = BoxedSlice::from_slice(rt.alloc(), &[0u8; 0]) else {
+        unreachable!();
+    };
+    assert!(rt; boxed.is_empty());
+    let mut single = SingleOrVec::new_in(rt.alloc());
+    let Ok(()) = single.push(7u8) else {
+        unreachable!();
+    };
+    let Ok(copy) = single.copy() else {
+        unreachable!();
+    };
+    assert!(rt; copy.is_inline());
+}

@@ -138,6 +138,20 @@ fn copy_on_write_handle(rt: HostRuntime) -> Result<(), Fail> {
     Ok(())
 }
 
+// The value is a further handle, so that its end shows in the count of the others.
+#[test]
+fn last_handle_lets_the_value_go(rt: HostRuntime) -> Result<(), Fail> {
+    let mut inner = shared(&rt, 7)?;
+    let held = strong(inner.try_clone())?;
+    let Ok(outer) = Arc::try_new_in(rt.alloc(), held) else {
+        return Err(Fail::from("no memory to share a handle"));
+    };
+    assert_eq!(rt; inner.strong_count(), 2);
+    drop(outer);
+    assert_eq!(rt; inner.strong_count(), 1);
+    Ok(())
+}
+
 #[test]
 fn handle_by_closure(rt: HostRuntime) -> Result<(), Fail> {
     let refused = Arc::try_make_in(rt.alloc(), || -> Result<u64, u8> { Err(1) });

@@ -30,11 +30,11 @@ loop-at-preserved-in-Some g c =
       room = c.push_reserved.ensures.capacity ∙ so.room;
     }
 
-pub returns-in_err-number-clause-err : goal.returns-in_err-number-clause-err
-returns-in_err-number-clause-err g c =
+pub returns-in_err-number-clause-refused : goal.returns-in_err-number-clause-refused
+returns-in_err-number-clause-refused g c =
     let p = err_from_is_err_and c.from_residual.result c.from_residual.ensures.1 in
     rw (p.1, p.2) (stopped c.args.registry.now c.loop-at.pass c.insert_gated.new.pass c.args.tables.now c.loop-at.at c.loop-at.numbers.items c.index-tables-at.result c.in_err-number.field-0.0 c.args.registry.now.zero
-    c.insert_gated.ensures.pass c.loop-at.invariant.worked c.in_err-number.ensures.err)
+    c.insert_gated.ensures.pass c.loop-at.invariant.worked c.in_err-number.ensures.refused)
 
 -- the registry gave the table's number
 pub loop-at-preserved-then-missed-len : goal.loop-at-preserved-then-missed-len
@@ -59,7 +59,7 @@ loop-at-preserved-in_default-try_snapshot g c =
     let here = next_more c.loop-at.pass c.insert_gated.new.pass c.args.tables.now c.loop-at.at c.loop-at.numbers.items c.index-tables-at.result c.in_ok-number.number within c.index-tables-at.is so.worked
     c.in_ok-number.ensures.inserts c.in_ok-number.ensures.number c.in_ok-number.ensures.distinct in
     let same : weight_of c.insert_gated.new.pass ≡ weight_of c.args.pass.now = search rules in
-    let none = read_refused c.insert_gated.new.pass c.try_snapshot.new.pass c.in_default-try_snapshot.field-0 c.in_default-try_snapshot.ensures.err in
+    let none = read_refused c.insert_gated.new.pass c.try_snapshot.new.pass c.in_default-try_snapshot.field-0 c.in_default-try_snapshot.ensures.refused in
     record {
       own = c.try_snapshot.ensures.pass;
       weight = same_weight _ _ none ∙ same;

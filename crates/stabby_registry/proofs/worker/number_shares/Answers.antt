@@ -3,6 +3,7 @@ use Rattle.std.specs.Vec.Iter.{into_iter_items}
 use Rattle.stabby_registry.specs.Passes.{Joined, front_of, commits_of}
 use Rattle.stabby_registry.specs.Work.{IsDone}
 use Rattle.stabby_registry.proofs.Joining.{done_at, joined_any, outcome_more}
+use Rattle.stabby_registry.proofs.GoingOn.{goes_on_then, goes_on_joined}
 use Rattle.stabby_registry.proofs.worker.number_shares.Goals as goal
 
 pub loop-job-preserved : goal.loop-job-preserved
@@ -19,6 +20,7 @@ loop-job-preserved g c =
         done = so.done;
         own = c.join.ensures.pass;
         weight = omega (arith, Joined.weight c.join.ensures.joined, so.weight, IsDone.weight done, more);
+        goes_on = goes_on_then _ _ _ so.goes_on (goes_on_joined _ _ _ c.join.ensures.joined c.join.ensures.first);
         joined = rw more (joined_any (front_of c.args.pass.now) (commits_of c.args.pass.now) c.loop-job.pass c.in-Some.job.pass c.join.new.pass c.args.tables.now c.args.size (length c.loop-job.yielded) c.in-Some.job.outcome
             so.joined (IsDone.outcome done) c.join.ensures.joined c.join.ensures.first c.join.ensures.second);
         outcome = rw more (outcome_more (commits_of c.args.pass.now) c.loop-job.pass c.in-Some.job.pass c.join.new.pass c.args.tables.now c.args.size (length c.loop-job.yielded) c.loop-job.numbered c.in-Some.job.outcome c.together-numbered.result

@@ -5,4 +5,4 @@ use Rattle.stabby_count.proofs.strong.Arc.downgrade.Given as goal
 
 abbrev pub invariant-loop : goal.invariant-loop
 invariant-loop g l =
-    (goal.iterator-loop g).can_next l.iterator' × (goal.iterator-loop g).is_finite l.iterator' × (arc_value l.self ≡ arc_value l.initial.self) × (arc_block l.self ≡ arc_block l.initial.self) × AddsLooks (arc_record l.initial.self) (arc_record l.self) × (IsSole l.initial.self → IsSole l.self)
+    (goal.iterator-loop g).can_next l.iterator' × (goal.iterator-loop g).is_finite l.iterator' × (arc_value l.self ≡ arc_value l.initial.self) × (arc_block l.self ≡ arc_block l.initial.self) × AddsLooks (arc_record l.initial.self) (arc_record l.self) × (IsSole l.initial.self → IsSole l.self × (arc_record l.self ≡ arc_record l.initial.self))

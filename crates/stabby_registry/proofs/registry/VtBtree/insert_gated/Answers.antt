@@ -5,8 +5,8 @@ use Rattle.stabby_registry.proofs.Inserting.{inserted_there, not_known, full_fro
 use Rattle.stabby_registry.proofs.PassLemmas.{then_looked}
 use Rattle.stabby_registry.proofs.registry.VtBtree.insert_gated.Goals as goal
 
-pub returns-in_err-number-clause-err : goal.returns-in_err-number-clause-err
-returns-in_err-number-clause-err g c =
+pub returns-in_err-number-clause-refused : goal.returns-in_err-number-clause-refused
+returns-in_err-number-clause-refused g c =
     let p = err_from_is_err_and c.from_residual.result c.from_residual.ensures.1 in
     rw (p.1, p.2) (no_commit_looked _ _ (then_looked _ _ _ c.loop.invariant.so_far c.find.ensures.looked))
 
@@ -16,13 +16,13 @@ returns-in-Known-clause-inserts g c = inl (then_looked _ _ _ c.loop.invariant.so
 pub returns-in-Known-clause-known : goal.returns-in-Known-clause-known
 returns-in-Known-clause-known g c known = then_looked _ _ _ c.loop.invariant.so_far c.find.ensures.looked
 
-pub returns-in-Full-clause-err : goal.returns-in-Full-clause-err
-returns-in-Full-clause-err g c =
+pub returns-in-Full-clause-refused : goal.returns-in-Full-clause-refused
+returns-in-Full-clause-refused g c =
     full_front c.args.self.now c.args.pass.now c.find.new.pass c.args.table.now c.seen.result c.args.self.now.zero c.find.ensures.pass
     (rw c.in-Full.is at c.in_ok-number.ensures.found) c.seen.ensures.stamp c.seen.ensures.limit (then_looked _ _ _ c.loop.invariant.so_far c.find.ensures.looked)
 
-pub returns-in_err-next-in-Absent-clause-err : goal.returns-in_err-next-in-Absent-clause-err
-returns-in_err-next-in-Absent-clause-err g c =
+pub returns-in_err-next-in-Absent-clause-refused : goal.returns-in_err-next-in-Absent-clause-refused
+returns-in_err-next-in-Absent-clause-refused g c =
     let p = err_from_is_err_and c.from_residual-in_err-next-in-Absent.result c.from_residual-in_err-next-in-Absent.ensures.1 in
     rw (p.1, p.2) (no_commit_looked _ _ (then_looked _ _ _ c.loop.invariant.so_far c.find.ensures.looked))
 

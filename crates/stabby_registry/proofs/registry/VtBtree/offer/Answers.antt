@@ -18,8 +18,8 @@ commit-requires-clause-follows g c =
     let last : last_table c.args.next ≡ c.requires.follows.0 = ap last_table follows.appended ∙ last-push (front_of c.args.pass.now) c.requires.follows.0 in
     rw (both.0, ← same, last) follows
 
-pub returns-in-Ok-clause-offered : goal.returns-in-Ok-clause-offered
-returns-in-Ok-clause-offered g c =
+pub returns-clause-offered : goal.returns-clause-offered
+returns-clause-offered g c =
     let same = took_at_front _ _ _ _ c.take-turn.ensures.took c.seen-base.ensures.stamp c.stamp.ensures.stamp c.if-stamp-base.false in
     let h : Committed c.args.pass.now c.commit.new.self.0 (front_of c.args.pass.now) (last_table c.args.next) =
     subst (λ f. Committed c.args.pass.now c.commit.new.self.0 f (last_table c.args.next)) (sym same) (committed_turn _ _ _ _ c.take-turn.ensures.took c.in-Ok.ensures.committed) in search rules

@@ -1,0 +1,222 @@
+//! What gates are told: each worker's steps, with the place of the table and its number.
+
+use crate::{Gate, VtBtree, WordTable, intern_all};
+use std::alloc::Global;
+use std::sync::atomic::{AtomicU64, AtomicUsize, Ordering};
+use std::test::Fail;
+
+const BEFORE: u64 = 1;
+
+const BUILDING: u64 = 2;
+
+const AFTER: u64 = 3;
+
+// A call of a gate: its step, the place, and the number, which is 0 where none is told.
+#[derive(Clone, Copy, PartialEq, Eq)]
+struct Call {
+    step: u64,
+    place: u64,
+    number: u64,
+}
+
+impl Call {
+    fn before(place: u64) -> Call {
+        Call {
+            step: BEFORE,
+            place,
+            number: 0,
+        }
+    }
+
+    fn building(place: u64) -> Call {
+        Call {
+            step: BUILDING,
+            place,
+            number: 0,
+        }
+    }
+
+    fn after(place: u64, number: u64) -> Call {
+        Call {
+            step: AFTER,
+            place,
+            number,
+        }
+    }
+}
+
+// A call that was told, and by which worker. Step 0 is none.
+#[derive(Drop)]
+struct Told {
+    worker: AtomicU64,
+    step: AtomicU64,
+    place: AtomicU64,
+    number: AtomicU64,
+}
+
+impl Told {
+    fn nothing() -> Told {
+        Told {
+            worker: AtomicU64::new(0),
+            step: AtomicU64::new(0),
+            place: AtomicU64::new(0),
+            number: AtomicU64::new(0),
+        }
+    }
+
+    fn is_of(&self, worker: u64) -> bool {
+        self.worker.load(Ordering::SeqCst) == worker && self.step.load(Ordering::SeqCst) > 0
+    }
+
+    fn call(&self) -> Call {
+        Call {
+            step: self.step.load(Ordering::SeqCst),
+            place: self.place.load(Ordering::SeqCst),
+            number: self.number.load(Ordering::SeqCst),
+        }
+    }
+}
+
+// Keeps the calls that it is told, in order.
+#[derive(Drop)]
+struct Recorder {
+    count: AtomicUsize,
+    told: Vec<Told>,
+}
+
+impl Recorder {
+    // A recorder of at most so many calls.
+    fn new(alloc: Global, calls: usize) -> Result<Recorder, &'static str> {
+        let mut told = Vec::new(alloc);
+        for _ in 0..calls {
+            told.push(Told::nothing()).map_err(|_| "memory")?;
+        }
+        Ok(Recorder {
+            count: AtomicUsize::new(0),
+            told,
+        })
+    }
+
+    fn keep(&self, worker: u64, call: Call) {
+        let at = self.count.fetch_add(1, Ordering::SeqCst);
+        if let Some(told) = self.told.get(at) {
+            told.worker.store(worker, Ordering::SeqCst);
+            told.place.store(call.place, Ordering::SeqCst);
+            told.number.store(call.number, Ordering::SeqCst);
+            told.step.store(call.step, Ordering::SeqCst);
+        }
+    }
+
+    // Whether a worker told exactly these calls, in order. Where another worker came between, a version is built again.
+    fn heard(&self, worker: u64, calls: &[Call]) -> bool {
+        let mut at = 0usize;
+        let mut last = Call::after(0, 0);
+        for told in &self.told {
+            let call = told.call();
+            if !told.is_of(worker) || (call.step == BUILDING && call == last) {
+                continue;
+            }
+            match calls.get(at) {
+                Some(wanted) if *wanted == call => at = at.saturating_add(1),
+                _ => return false,
+            }
+            last = call;
+        }
+        at == calls.len()
+    }
+}
+
+impl Gate for Recorder {
+    fn before(&self, worker: u64, place: u64) {
+        self.keep(worker, Call::before(place));
+    }
+
+    fn building(&self, worker: u64, place: u64) {
+        self.keep(worker, Call::building(place));
+    }
+
+    fn after(&self, worker: u64, place: u64, number: u64) {
+        self.keep(worker, Call::after(place, number));
+    }
+}
+
+fn tables_of(alloc: Global, words: &[u64]) -> Result<Vec<WordTable>, &'static str> {
+    let mut tables = Vec::new(alloc);
+    for word in words {
+        let table = WordTable::from_words(alloc, &[*word]).map_err(|_| "memory")?;
+        tables.push(table).map_err(|_| "memory")?;
+    }
+    Ok(tables)
+}
+
+// A new table is told of three times, a known one twice, each time with the worker and the place that the caller gave.
+#[test]
+fn insert_tells_its_gate(rt: HostRuntime) -> Result<(), Fail> {
+    let alloc = rt.alloc();
+    let five = WordTable::from_words(alloc, &[5]).map_err(|_| "memory")?;
+    let three = WordTable::from_words(alloc, &[3]).map_err(|_| "memory")?;
+    let gate = Recorder::new(alloc, 9)?;
+    let (registry, mut pass) = VtBtree::<5>::new(alloc).map_err(|_| "memory")?;
+    assert!(rt; registry.insert_gated(&rt, alloc, &mut pass, &five, &gate, 7, 4) == Ok(0));
+    assert!(rt; registry.insert_gated(&rt, alloc, &mut pass, &three, &gate, 7, 8) == Ok(1));
+    assert!(rt; registry.insert_gated(&rt, alloc, &mut pass, &three, &gate, 7, 6) == Ok(1));
+    let new = [Call::before(4), Call::building(4), Call::after(4, 0)];
+    let next = [Call::before(8), Call::building(8), Call::after(8, 1)];
+    let known = [Call::before(6), Call::after(6, 1)];
+    assert!(rt;
+        gate.heard(
+            7,
+            &[
+                new[0], new[1], new[2], next[0], next[1], next[2], known[0], known[1]
+            ]
+        )
+    );
+    Ok(())
+}
+
+// Of five tables two are of each of the first two workers, and one is of the third.
+#[test]
+fn workers_tell_their_gate(rt: HostRuntime) -> Result<(), Fail> {
+    let alloc = rt.alloc();
+    let tables = tables_of(alloc, &[5, 3, 9, 1, 7])?;
+    let gate = Recorder::new(alloc, 60)?;
+    let (mut registry, mut pass) = VtBtree::<5>::new(alloc).map_err(|_| "memory")?;
+    let Ok(interned) = intern_all(&rt, alloc, &mut registry, &mut pass, &tables, 3, &gate) else {
+        return Err("memory")?;
+    };
+    let Ok([a, b, c, d, e]) = <[u64; 5]>::try_from(interned.numbers()) else {
+        return Err("five tables were given")?;
+    };
+    let zero = [Call::before(0), Call::building(0), Call::after(0, a)];
+    let one = [Call::before(1), Call::building(1), Call::after(1, b)];
+    assert!(rt; gate.heard(0, &[zero[0], zero[1], zero[2], one[0], one[1], one[2]]));
+    let two = [Call::before(2), Call::building(2), Call::after(2, c)];
+    let three = [Call::before(3), Call::building(3), Call::after(3, d)];
+    assert!(rt; gate.heard(1, &[two[0], two[1], two[2], three[0], three[1], three[2]]));
+    assert!(rt; gate.heard(2, &[Call::before(4), Call::building(4), Call::after(4, e)]));
+    Ok(())
+}
+
+// A worker tells of a table that it had before by the number alone.
+#[test]
+fn repeats_tell_their_gate(rt: HostRuntime) -> Result<(), Fail> {
+    let alloc = rt.alloc();
+    let tables = tables_of(alloc, &[5, 5])?;
+    let gate = Recorder::new(alloc, 9)?;
+    let (mut registry, mut pass) = VtBtree::<5>::new(alloc).map_err(|_| "memory")?;
+    assert!(rt; intern_all(&rt, alloc, &mut registry, &mut pass, &tables, 1, &gate).is_ok());
+    let first = [Call::before(0), Call::building(0), Call::after(0, 0)];
+    assert!(rt;
+        gate.heard(
+            0,
+            &[
+                first[0],
+                first[1],
+                first[2],
+                Call::before(1),
+                Call::after(1, 0)
+            ]
+        )
+    );
+    Ok(())
+}
