@@ -1,5 +1,5 @@
 //! The words that tables list: a table lists its tail's, and then its head's.
-ghost use Rattle.std.specs.Prelude.{◌≡◌, ◌++◌, [], ◌∷◌, IfOk, IfErr};
+ghost use Rattle.std.specs.Prelude.{◌++◌, [], ◌∷◌};
 
 use crate::table::{AnyVt, IterVt, VTable, VtDrop, VtSend, VtSync};
 use stabby_layout::AllocationError;
