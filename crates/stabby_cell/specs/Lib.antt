@@ -11,3 +11,4 @@ pub mod Shared
 pub mod Replaced
 pub mod Visits
 pub mod Edits
+pub mod Lookups

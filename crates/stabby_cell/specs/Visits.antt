@@ -9,7 +9,10 @@ use Rattle.stabby_cell.specs.declared.replaced.ReplacedCell.{ReplacedCell}
 use Rattle.stabby_cell.specs.declared.view.StepKind.TheVariants.{Take, Release}
 use Rattle.stabby_cell.specs.Telling.{noted}
 use Rattle.stabby_cell.specs.Recording.{misses_at}
-use Rattle.stabby_cell.specs.Passes.{Advances, Committed, front_of, stamp_of}
+use Rattle.stabby_cell.specs.declared.turn.Turn.{Turn}
+use Rattle.stabby_cell.specs.Values.{last_of}
+use Rattle.stabby_cell.specs.Turns.{cell_of, pass_of}
+use Rattle.stabby_cell.specs.Passes.{Advances, Committed, front_of, stamp_of, first_version_of, entries_before}
 use Rattle.stabby_cell.specs.Replaced.{contents_of}
 
 module _ {V E : Type 0} {g : Ghosts V E} where
@@ -19,6 +22,10 @@ module _ {V E : Type 0} {g : Ghosts V E} where
     pub advances : Advances p q (misses_at found_held ++ noted Take (stamp_of q) ∷ noted Release (stamp_of q) ∷ [])
 
 module _ {V : Type 0} {g : Ghosts V V} where
+  -- of the stamp t, the contents that a turn may have
+  abbrev pub contents_then : Turn V V g → ℕ → V
+  contents_then turn t = last_of (first_version_of (cell_of turn)) (entries_before (cell_of turn) (front_of (pass_of turn)) t)
+
   -- a version with the entry e was offered on the front of p, with so many tries left
   abbrev pub HasOffered : ReplacedCell V → Pass V V g → Pass V V g → ℕ → V → Offered V → Type 0
   HasOffered c p q left e offered.Committed = Committed p q (front_of p) e

@@ -1,8 +1,7 @@
 //! A copy of an older version, made under the turn.
 ghost use Rattle.std.specs.Prelude.{◌≡◌, ◌↔◌, IfOk, IfErr, IfSome, IsSome};
-ghost use Rattle.stabby_cell.specs.Turns.{IsTurn, KeepsStamp, cell_of, pass_of};
-ghost use Rattle.stabby_cell.specs.Values.{last_of};
-ghost use Rattle.stabby_cell.specs.Passes.{entries_before, first_version_of, front_of};
+ghost use Rattle.stabby_cell.specs.Turns.{IsTurn, KeepsStamp};
+ghost use Rattle.stabby_cell.specs.Visits.{contents_then};
 
 use crate::replaced::Replaced;
 use crate::turn::Turn;
@@ -18,7 +17,7 @@ pub(crate) fn copy_at<V: Replaced + Drop>(
     requires turn { IsTurn V.Chronicle.next turn.now }
     requires copies { (v : V) → V.Chronicle.can_copy v }
     ensures kept { IfOk result (λ found. IsSome found ↔ KeepsStamp turn.now stamp) }
-    ensures contents { IfOk result (λ found. IfSome found (λ v. v ≡ last_of (first_version_of (cell_of turn.now)) (entries_before (cell_of turn.now) (front_of (pass_of turn.now)) stamp))) }
+    ensures contents { IfOk result (λ found. IfSome found (λ v. v ≡ contents_then turn.now stamp)) }
     ensures memory { IfErr result (λ error. error ≡ AllocationError.Memory) }
 {
     match turn.at(stamp) {

@@ -1,7 +1,7 @@
 //! A set that threads read and edit whole.
-ghost use Rattle.std.specs.Prelude.{◌≡◌, ◌≤◌, [], option_copied, IfOk, IfErr, Option};
-ghost use Rattle.std.specs.Borrow.{Bor};
-ghost use Rattle.stabby_tree.specs.Sets.{IsLimit, found};
+ghost use Rattle.std.specs.Prelude.{◌≡◌, ◌≤◌, [], IfOk, IfErr};
+ghost use Rattle.stabby_tree.specs.Sets.{IsLimit};
+ghost use Rattle.stabby_cell.specs.Lookups.{Finds};
 ghost use Rattle.stabby_cell.specs.Passes.{IsWhole, Looked, front_of, stamp_of, lost_of, commits_of, record_of};
 ghost use Rattle.stabby_cell.specs.Replaced.{IsPassOf, contents_of, first_contents_of, keep_of};
 
@@ -94,7 +94,7 @@ impl<T: Keyed + Drop + Clone, const R: usize, const L: usize> ReplacedCell<
         requires callable { F.IsAlwaysCallable f }
         ensures pass { IsPassOf self.now pass.new }
         ensures looked { Looked pass.old pass.new }
-        ensures answer { IfOk result (λ q. (x : Option (Bor T)) × (option_copied x ≡ found T.key_of T.Key.cmp (contents_of self.now (front_of pass.new)).items key.now) × F.post f x q) }
+        ensures answer { IfOk result (λ q. Finds T.key_of T.Key.cmp (contents_of self.now (front_of pass.new)) key.now (λ x. F.post f x q)) }
         ensures memory { IfErr result (λ error. error ≡ AllocationError.Memory) }
     {
         let set = self.load(rt, self.alloc, pass)?;
