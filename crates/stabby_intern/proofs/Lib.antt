@@ -5,3 +5,4 @@ pub mod Telling
 pub mod ByNumber
 pub mod Reporting
 pub mod Clean
+pub mod Endings

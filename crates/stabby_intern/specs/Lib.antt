@@ -1,6 +1,7 @@
 pub mod Commands
 pub mod Devices
 pub mod Memory
+pub mod Sure
 pub mod Messages
 pub mod Parsing
 pub mod Printing

@@ -27,6 +27,10 @@ pub use status::Status;
 pub use sure::{SureSink, SureSource};
 
 #[cfg(test)]
+mod device_tests;
+#[cfg(test)]
+mod gate_tests;
+#[cfg(test)]
 mod overlap_tests;
 #[cfg(test)]
 mod tests;

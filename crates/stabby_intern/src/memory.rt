@@ -1,7 +1,6 @@
 //! A source and a sink in memory, which fail at the calls that they are told.
 
-ghost use Rattle.std.specs.Prelude.{◌≡◌, ◌≤◌, ◌<◌, ◌+◌, ◌-◌, ◌^◌, ◌==◌, ◌||◌, min, ◌↔◌, [], Some, drop, length, vec_len, vec_capacity, IfOk, IfErr, IsErr, IsTrue};
-ghost use Rattle.std.specs.List.{list_any};
+ghost use Rattle.std.specs.Prelude.{◌≡◌, ◌≤◌, ◌<◌, min, ◌↔◌, [], Some, drop, length, vec_len, vec_capacity, IfOk, IfErr, IsErr};
 ghost use Rattle.stabby_intern.specs.Devices.{Reads, Writes, HasCause};
 
 use crate::device::{Failed, Sink, Source};
@@ -46,7 +45,7 @@ impl MemorySource {
 }
 
 impl Source for MemorySource {
-    ghost use Rattle.stabby_intern.specs.Memory.{chunk_of, failing_of, calls_of};
+    ghost use Rattle.stabby_intern.specs.Memory.{chunk_of, failing_of, calls_of, left_in, IsTold, next_call};
 
     ghost left = { λ s. Some (drop s.at s.bytes.items) };
 
@@ -55,13 +54,15 @@ impl Source for MemorySource {
     fn read(&mut self, buf: &mut [u8]) -> Result<usize, Failed>
         requires { 0 < length buf.old }
         ensures bound { IfOk result (λ n. n ≤ length buf.new) }
-        ensures bytes { Reads (⟦<MemorySource as Source>⟧.left self.old) (⟦<MemorySource as Source>⟧.left self.new) result buf.new }
-        ensures cause { HasCause (⟦<MemorySource as Source>⟧.faults self.old) (⟦<MemorySource as Source>⟧.faults self.new) result }
-        ensures chunk { IfOk result (λ n. n ≤ chunk_of self.old) }
-        ensures fails { IsErr result ↔ IsTrue (list_any (λ y. y == calls_of self.old) (failing_of self.old)) }
+        ensures bytes { Reads (⟦<MemorySource as Source>⟧.left self.old) (⟦<MemorySource as Source>⟧.left self.new)
+            result buf.new }
+        ensures cause { HasCause (⟦<MemorySource as Source>⟧.faults self.old)
+            (⟦<MemorySource as Source>⟧.faults self.new) result }
+        ensures amount { IfOk result (λ n. n ≡ min (min (length buf.old) (chunk_of self.old)) (left_in self.old)) }
+        ensures fails { IsErr result ↔ IsTold (failing_of self.old) (calls_of self.old) }
         ensures same_chunk { chunk_of self.new ≡ chunk_of self.old }
         ensures same_fails { failing_of self.new ≡ failing_of self.old }
-        ensures calls { calls_of self.new ≡ min (calls_of self.old + 1) (2 ^ 64 - 1) }
+        ensures calls { calls_of self.new ≡ next_call (calls_of self.old) }
     {
         let call = self.calls;
         self.calls = call.saturating_add(1);
@@ -87,9 +88,12 @@ pub struct MemorySink {
     faults: u64,
     ghost some: { 1 ≤ chunk },
     ghost reserved: { room ≤ vec_capacity taken },
+    ghost within: { vec_len taken ≤ room },
 }
 
 impl MemorySink {
+    ghost use Rattle.stabby_intern.specs.Memory.{settings_of, writes_of};
+
     /// An empty sink with `room` bytes reserved. A write takes at most `chunk` bytes, at least 1; it fails where no
     /// room is left, and where the call's number, from 0, is in `fails`.
     ///
@@ -104,6 +108,9 @@ impl MemorySink {
         requires { 1 ≤ chunk }
         ensures taken { IfOk result (λ sink. ⟦<MemorySink as Sink>⟧.taken sink ≡ Some []) }
         ensures faults { IfOk result (λ sink. ⟦<MemorySink as Sink>⟧.faults sink ≡ 0) }
+        ensures settings { IfOk result (λ sink. settings_of sink
+            ≡ record { room = room; chunk = chunk; fails = fails.items }) }
+        ensures calls { IfOk result (λ sink. writes_of sink ≡ 0) }
         ensures memory { IfErr result (λ error. error ≡ AllocationError.Memory) }
     {
         Ok(MemorySink {
@@ -125,25 +132,40 @@ impl MemorySink {
 }
 
 impl Sink for MemorySink {
+    ghost use Rattle.stabby_intern.specs.Memory.{settings_of, writes_of, takes, Refuses, next_call};
+
     ghost taken = { λ s. Some s.taken.items };
 
     ghost faults = { λ s. s.faults };
 
-    fn write(&mut self, bytes: &[u8]) -> Result<usize, Failed> {
+    fn write(&mut self, bytes: &[u8]) -> Result<usize, Failed>
+        requires { 0 < length bytes.now }
+        ensures least { IfOk result (λ n. 1 ≤ n) }
+        ensures most { IfOk result (λ n. n ≤ length bytes.now) }
+        ensures bytes { Writes (⟦<MemorySink as Sink>⟧.taken self.old) (⟦<MemorySink as Sink>⟧.taken self.new)
+            result bytes.now }
+        ensures cause { HasCause (⟦<MemorySink as Sink>⟧.faults self.old) (⟦<MemorySink as Sink>⟧.faults self.new)
+            result }
+        ensures amount { IfOk result (λ n. n ≡ takes self.old (length bytes.now)) }
+        ensures fails { IsErr result ↔ Refuses self.old }
+        ensures same_settings { settings_of self.new ≡ settings_of self.old }
+        ensures calls { writes_of self.new ≡ next_call (writes_of self.old) }
+    {
         let call = self.calls;
         self.calls = call.saturating_add(1);
-        let n = bytes
-            .len()
-            .min(self.chunk)
-            .min(self.room.saturating_sub(self.taken.len()));
-        if n == 0 || self.fails.contains(&call) {
+        if self.fails.contains(&call) {
             self.faults = self.faults.saturating_add(1);
             return Err(Failed);
         }
-        if self.taken.extend_from_slice(&bytes[..n]).is_err() {
+        let left = self.room - self.taken.len();
+        if left == 0 {
             self.faults = self.faults.saturating_add(1);
             return Err(Failed);
         }
-        Ok(n)
+        let n = bytes.len().min(self.chunk).min(left);
+        match self.taken.extend_from_slice(&bytes[..n]) {
+            Ok(()) => Ok(n),
+            Err(_) => unreachable!(),
+        }
     }
 }

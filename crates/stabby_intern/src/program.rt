@@ -1,12 +1,10 @@
 //! The top call.
 
-ghost use Rattle.std.specs.Prelude.{◌≡◌, ◌⊎◌, ◌<◌, ◌≤◌, ℕ, List, [], length, map, IfOk, IfSome, Err, string_bytes};
+ghost use Rattle.std.specs.Prelude.{◌≡◌, ◌≤◌, ℕ, [], length, IfOk, Err};
 ghost use Rattle.stabby_tables.specs.Lines.{IsBadLine};
-ghost use Rattle.stabby_registry.specs.Passes.{IsWhole, IsPassOf, front_of};
-ghost use Rattle.stabby_intern.specs.Devices.{Gave, Took, Rose};
-ghost use Rattle.stabby_intern.specs.Commands.{IsNoCommand};
+ghost use Rattle.stabby_registry.specs.Passes.{IsWhole, IsPassOf, GoesOn, front_of};
 ghost use Rattle.stabby_intern.specs.Messages.{line_of, IsTold};
-ghost use Rattle.stabby_intern.specs.Runs.{CleanRun, CleanBadRun, input_limit, Reported, PartlyAdded, OkRun, BadLineRun, MemoryRun, WriteFaultRun};
+ghost use Rattle.stabby_intern.specs.Runs.{run_of, Says, Comes, input_limit, Reported, PartlyAdded};
 
 use crate::command::{Command, parse_command};
 use crate::device::{Sink, Source};
@@ -44,46 +42,28 @@ pub fn run<S: Source, K: Sink, E: Sink, G: Gate, H: Threads + Wait + Sync>(
     requires empty { front_of pass.old ≡ [] }
     requires belongs { IsPassOf registry.old pass.old }
 
-    // The headline: the input spells tables, the report was taken, and the registry holds exactly these tables.
-    ensures ok { result ≡ Status.Ok → OkRun (map string_bytes words.now) (S.left source.old) (S.left source.new) (K.taken out.old) (K.taken out.new) (front_of pass.new) }
-    ensures complete { CleanRun (map string_bytes words.now) (S.left source.old) (S.left source.new) (S.faults source.old) (S.faults source.new) (K.faults out.old) (K.faults out.new) → (result ≡ Status.Ok) ⊎ (result ≡ Status.Memory) }
+    // What each status says of the run. That of `Ok` is the headline: the input spells tables, the report was taken, and the
+    // registry holds exactly these tables.
+    ensures says { Says
+        (run_of S.Source K.Sink words.now source.old source.new out.old out.new (front_of pass.new)) result }
 
-    // The words are no command: nothing is read, nothing is written.
-    ensures usage { result ≡ Status.Usage → IsNoCommand (map string_bytes words.now) }
-    ensures usage_exactly { IsNoCommand (map string_bytes words.now) → result ≡ Status.Usage }
-    ensures usage_leaves { result ≡ Status.Usage → (source.new ≡ source.old) × (out.new ≡ out.old) × (front_of pass.new ≡ []) }
+    // Where each status comes.
+    ensures comes { Comes
+        (run_of S.Source K.Sink words.now source.old source.new out.old out.new (front_of pass.new)) result }
 
-    // A read failed, before the limit of the input was passed.
-    ensures read_fault { result ≡ Status.ReadFault → Rose (S.faults source.old) (S.faults source.new) }
-    ensures read_fault_exactly { S.faults source.old < S.faults source.new → result ≡ Status.ReadFault }
-    ensures read_fault_first { result ≡ Status.ReadFault → (bytes : List ℕ) × Gave (S.left source.old) (S.left source.new) bytes × (length bytes ≤ input_limit) }
-    ensures read_fault_leaves { result ≡ Status.ReadFault → (K.taken out.new ≡ K.taken out.old) × (front_of pass.new ≡ []) }
-    ensures reads_kept { (result ≡ Status.ReadFault → ⊥) → S.faults source.new ≡ S.faults source.old }
-
-    // The source gave more bytes than the limit.
-    ensures too_long { result ≡ Status.TooLong → IfSome (S.left source.new) (λ _. (bytes : List ℕ) × Gave (S.left source.old) (S.left source.new) bytes × (input_limit < length bytes)) }
-    ensures too_long_leaves { result ≡ Status.TooLong → (K.taken out.new ≡ K.taken out.old) × (front_of pass.new ≡ []) }
-
-    // The input was read to its end, and this line is the first that spells no table.
-    ensures bad_word { (line : ℕ) → result ≡ Status.BadWord line → BadLineRun (S.left source.old) (S.left source.new) (K.taken out.old) (K.taken out.new) (front_of pass.new) line }
-
-    ensures bad_word_exactly { (line : ℕ) → CleanBadRun (map string_bytes words.now) (S.left source.old) (S.left source.new) (S.faults source.old) (S.faults source.new) line → (result ≡ Status.BadWord line) ⊎ (result ≡ Status.Memory) }
-
-    // A write of the report failed: a proper part of it was taken.
-    ensures write_fault { result ≡ Status.WriteFault → Rose (K.faults out.old) (K.faults out.new) }
-    ensures write_fault_exactly { K.faults out.old < K.faults out.new → result ≡ Status.WriteFault }
-    ensures write_fault_leaves { result ≡ Status.WriteFault → WriteFaultRun (map string_bytes words.now) (S.left source.old) (S.left source.new) (K.taken out.old) (K.taken out.new) (front_of pass.new) }
-    ensures writes_kept { (result ≡ Status.WriteFault → ⊥) → K.faults out.new ≡ K.faults out.old }
-
-    // Memory could not be had: nothing was written.
-    ensures memory { result ≡ Status.Memory → MemoryRun (S.left source.old) (S.left source.new) (K.taken out.old) (K.taken out.new) (front_of pass.new) }
+    // Where the words are no command, nothing is read and nothing is written.
+    ensures usage_leaves { result ≡ Status.Usage → (source.new ≡ source.old) × (out.new ≡ out.old) }
 
     // The log took the status's line, or its first bytes where the log failed; a fault of the log changes nothing.
-    ensures log_told { IsTold (line_of result) (E.taken log.old) (E.taken log.new) (E.faults log.old) (E.faults log.new) }
+    ensures log_told { IsTold (line_of result) (E.taken log.old) (E.taken log.new)
+        (E.faults log.old) (E.faults log.new) }
     ensures log_kept { result ≡ Status.Ok → log.new ≡ log.old }
 
+    // The registry and the pass are the ones that were handed in, and the pass goes on from what it was.
     ensures whole { IsWhole pass.new }
     ensures belongs { IsPassOf registry.new pass.new }
+    ensures same_registry { registry.new ≡ registry.old }
+    ensures goes_on { GoesOn pass.old pass.new }
 {
     let status = outcome(rt, alloc, words, source, out, registry, pass, gate);
     tell(log, status);
@@ -91,6 +71,7 @@ pub fn run<S: Source, K: Sink, E: Sink, G: Gate, H: Threads + Wait + Sync>(
 }
 
 // Runs a command, and tells nobody how it ended.
+#[tactic(auto, using(crate::proofs::Endings::comes))]
 fn outcome<S: Source, K: Sink, G: Gate, H: Threads + Wait + Sync>(
     rt: &H,
     alloc: Global,
@@ -105,27 +86,15 @@ fn outcome<S: Source, K: Sink, G: Gate, H: Threads + Wait + Sync>(
     requires empty { front_of pass.old ≡ [] }
     requires belongs { IsPassOf registry.old pass.old }
 
-    ensures ok { result ≡ Status.Ok → OkRun (map string_bytes words.now) (S.left source.old) (S.left source.new) (K.taken out.old) (K.taken out.new) (front_of pass.new) }
-    ensures complete { CleanRun (map string_bytes words.now) (S.left source.old) (S.left source.new) (S.faults source.old) (S.faults source.new) (K.faults out.old) (K.faults out.new) → (result ≡ Status.Ok) ⊎ (result ≡ Status.Memory) }
-    ensures usage { result ≡ Status.Usage → IsNoCommand (map string_bytes words.now) }
-    ensures usage_exactly { IsNoCommand (map string_bytes words.now) → result ≡ Status.Usage }
-    ensures usage_leaves { result ≡ Status.Usage → (source.new ≡ source.old) × (out.new ≡ out.old) × (front_of pass.new ≡ []) }
-    ensures read_fault { result ≡ Status.ReadFault → Rose (S.faults source.old) (S.faults source.new) }
-    ensures read_fault_exactly { S.faults source.old < S.faults source.new → result ≡ Status.ReadFault }
-    ensures read_fault_first { result ≡ Status.ReadFault → (bytes : List ℕ) × Gave (S.left source.old) (S.left source.new) bytes × (length bytes ≤ input_limit) }
-    ensures read_fault_leaves { result ≡ Status.ReadFault → (K.taken out.new ≡ K.taken out.old) × (front_of pass.new ≡ []) }
-    ensures reads_kept { (result ≡ Status.ReadFault → ⊥) → S.faults source.new ≡ S.faults source.old }
-    ensures too_long { result ≡ Status.TooLong → IfSome (S.left source.new) (λ _. (bytes : List ℕ) × Gave (S.left source.old) (S.left source.new) bytes × (input_limit < length bytes)) }
-    ensures too_long_leaves { result ≡ Status.TooLong → (K.taken out.new ≡ K.taken out.old) × (front_of pass.new ≡ []) }
-    ensures bad_word { (line : ℕ) → result ≡ Status.BadWord line → BadLineRun (S.left source.old) (S.left source.new) (K.taken out.old) (K.taken out.new) (front_of pass.new) line }
-    ensures bad_word_exactly { (line : ℕ) → CleanBadRun (map string_bytes words.now) (S.left source.old) (S.left source.new) (S.faults source.old) (S.faults source.new) line → (result ≡ Status.BadWord line) ⊎ (result ≡ Status.Memory) }
-    ensures write_fault { result ≡ Status.WriteFault → Rose (K.faults out.old) (K.faults out.new) }
-    ensures write_fault_exactly { K.faults out.old < K.faults out.new → result ≡ Status.WriteFault }
-    ensures write_fault_leaves { result ≡ Status.WriteFault → WriteFaultRun (map string_bytes words.now) (S.left source.old) (S.left source.new) (K.taken out.old) (K.taken out.new) (front_of pass.new) }
-    ensures writes_kept { (result ≡ Status.WriteFault → ⊥) → K.faults out.new ≡ K.faults out.old }
-    ensures memory { result ≡ Status.Memory → MemoryRun (S.left source.old) (S.left source.new) (K.taken out.old) (K.taken out.new) (front_of pass.new) }
+    ensures says { Says
+        (run_of S.Source K.Sink words.now source.old source.new out.old out.new (front_of pass.new)) result }
+    ensures comes { Comes
+        (run_of S.Source K.Sink words.now source.old source.new out.old out.new (front_of pass.new)) result }
+    ensures usage_leaves { result ≡ Status.Usage → (source.new ≡ source.old) × (out.new ≡ out.old) }
     ensures whole { IsWhole pass.new }
     ensures belongs { IsPassOf registry.new pass.new }
+    ensures same_registry { registry.new ≡ registry.old }
+    ensures goes_on { GoesOn pass.old pass.new }
 {
     let Some(command) = parse_command(words) else {
         return Status::Usage;
@@ -162,11 +131,15 @@ fn report_of<G: Gate, H: Threads + Wait + Sync>(
     requires whole { IsWhole pass.old }
     requires empty { front_of pass.old ≡ [] }
     requires belongs { IsPassOf registry.old pass.old }
-    ensures ok { IfOk result (λ report. Reported command.task text.now command.workers (front_of pass.new) report.items) }
-    ensures bad_word { (line : ℕ) → result ≡ Err (ParseFault.BadWord line) → IsBadLine text.now line × (front_of pass.new ≡ []) }
+    ensures ok { IfOk result (λ report. Reported command.task text.now command.workers
+        (front_of pass.new) report.items) }
+    ensures bad_word { (line : ℕ) → result ≡ Err (ParseFault.BadWord line)
+        → IsBadLine text.now line × (front_of pass.new ≡ []) }
     ensures memory { result ≡ Err ParseFault.Memory → PartlyAdded text.now (front_of pass.new) }
     ensures whole { IsWhole pass.new }
     ensures belongs { IsPassOf registry.new pass.new }
+    ensures same_registry { registry.new ≡ registry.old }
+    ensures goes_on { GoesOn pass.old pass.new }
 {
     let tables = parse_tables(alloc, text)?;
     let interned = intern_all(rt, alloc, registry, pass, &tables, command.workers, gate)?;

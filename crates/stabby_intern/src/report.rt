@@ -103,7 +103,8 @@ fn push_at_places(
     places: &[u64],
 ) -> Result<(), AllocationError>
     requires places { All (λ place. place < length entries.now) places.now }
-    ensures tables { OnOk result (report.new.items ≡ report.old.items ++ ended (map (λ place. spelled (table_in entries.now place)) places.now)) }
+    ensures tables { OnOk result (report.new.items
+        ≡ report.old.items ++ ended (map (λ place. spelled (table_in entries.now place)) places.now)) }
     ensures memory { IfErr result (λ error. error ≡ AllocationError.Memory) }
 {
     for place in places {
@@ -128,7 +129,8 @@ fn push_table(report: &mut Vec<u8>, table: &WordTable) -> Result<(), AllocationE
 
 // A word, and a space before it where one stands between.
 fn push_word(report: &mut Vec<u8>, between: bool, word: u64) -> Result<(), AllocationError>
-    ensures word { OnOk result (report.new.items ≡ report.old.items ++ (if between then 32 ∷ decimal word else decimal word)) }
+    ensures word { OnOk result (report.new.items
+        ≡ report.old.items ++ (if between then 32 ∷ decimal word else decimal word)) }
     ensures memory { IfErr result (λ error. error ≡ AllocationError.Memory) }
 {
     if between {

@@ -13,7 +13,10 @@ pub struct StdinSource {
 }
 
 impl StdinSource {
-    pub fn new(stdin: Stdin) -> StdinSource {
+    /// It has not failed yet.
+    pub fn new(stdin: Stdin) -> StdinSource
+        ensures faults { ⟦<StdinSource as Source>⟧.faults result ≡ 0 }
+    {
         StdinSource { stdin, faults: 0 }
     }
 }
@@ -42,7 +45,10 @@ pub struct StdoutSink {
 }
 
 impl StdoutSink {
-    pub fn new(stdout: Stdout) -> StdoutSink {
+    /// It has not failed yet.
+    pub fn new(stdout: Stdout) -> StdoutSink
+        ensures faults { ⟦<StdoutSink as Sink>⟧.faults result ≡ 0 }
+    {
         StdoutSink { stdout, faults: 0 }
     }
 }
@@ -71,7 +77,10 @@ pub struct StderrSink {
 }
 
 impl StderrSink {
-    pub fn new(stderr: Stderr) -> StderrSink {
+    /// It has not failed yet.
+    pub fn new(stderr: Stderr) -> StderrSink
+        ensures faults { ⟦<StderrSink as Sink>⟧.faults result ≡ 0 }
+    {
         StderrSink { stderr, faults: 0 }
     }
 }

@@ -1,6 +1,7 @@
 //! A source and a sink that never fail.
 
-ghost use Rattle.std.specs.Prelude.{◌≡◌, ◌≤◌, [], Some, None, drop, length, vec_len, vec_capacity, nat_le, if◌then◌else◌, IfOk, IfErr};
+ghost use Rattle.std.specs.Prelude.{◌≡◌, ◌≤◌, ◌<◌, ◌+◌, ◌↔◌, ◌++◌, [], Ok, Some, None, drop, take, length, min, vec_len, vec_capacity, if◌then◌else◌, IfOk, IfErr, IfSome, IsSome};
+ghost use Rattle.stabby_intern.specs.Devices.{Reads, Writes, HasCause};
 
 use crate::device::{Failed, Sink, Source};
 use stabby_layout::AllocationError;
@@ -25,11 +26,20 @@ impl SureSource {
 }
 
 impl Source for SureSource {
+    ghost use Rattle.stabby_intern.specs.Sure.{rest_in};
+
     ghost left = { λ s. Some (drop s.at s.bytes.items) };
 
     ghost faults = { λ _. 0 };
 
-    fn read(&mut self, buf: &mut [u8]) -> Result<usize, Failed> {
+    fn read(&mut self, buf: &mut [u8]) -> Result<usize, Failed>
+        requires { 0 < length buf.old }
+        ensures bound { IfOk result (λ n. n ≤ length buf.new) }
+        ensures bytes { Reads (⟦<SureSource as Source>⟧.left self.old) (⟦<SureSource as Source>⟧.left self.new)
+            result buf.new }
+        ensures cause { HasCause 0 0 result }
+        ensures amount { result ≡ Ok (min (length buf.old) (rest_in self.old)) }
+    {
         let n = buf.len().min(self.bytes.len() - self.at);
         buf[..n].copy_from_slice(&self.bytes[self.at..self.at + n]);
         self.at += n;
@@ -49,6 +59,8 @@ pub struct SureSink {
 }
 
 impl SureSink {
+    ghost use Rattle.stabby_intern.specs.Sure.{kept_of, room_of};
+
     /// An empty sink with `room` bytes reserved.
     ///
     /// # Errors
@@ -56,6 +68,7 @@ impl SureSink {
     pub fn new(alloc: Global, room: usize) -> Result<SureSink, AllocationError>
         ensures taken { IfOk result (λ sink. ⟦<SureSink as Sink>⟧.taken sink ≡ Some []) }
         ensures faults { IfOk result (λ sink. ⟦<SureSink as Sink>⟧.faults sink ≡ 0) }
+        ensures room { IfOk result (λ sink. room_of sink ≡ room) }
         ensures memory { IfErr result (λ error. error ≡ AllocationError.Memory) }
     {
         Ok(SureSink {
@@ -65,25 +78,43 @@ impl SureSink {
         })
     }
 
-    /// The first bytes that it was given, at most its room.
-    pub fn kept(&self) -> &[u8] {
+    /// The first bytes that it was given, at most its room. While it tells its bytes, they are these.
+    pub fn kept(&self) -> &[u8]
+        ensures kept { result.now ≡ kept_of self.now }
+        ensures told { IfSome (⟦<SureSink as Sink>⟧.taken self.now) (λ bytes. bytes ≡ result.now) }
+    {
         &self.taken
     }
 }
 
 impl Sink for SureSink {
+    ghost use Rattle.stabby_intern.specs.Sure.{kept_of, room_of};
+
     ghost taken = { λ s. if s.full then None else Some s.taken.items };
 
     ghost faults = { λ _. 0 };
 
-    fn write(&mut self, bytes: &[u8]) -> Result<usize, Failed> {
+    fn write(&mut self, bytes: &[u8]) -> Result<usize, Failed>
+        requires { 0 < length bytes.now }
+        ensures least { IfOk result (λ n. 1 ≤ n) }
+        ensures most { IfOk result (λ n. n ≤ length bytes.now) }
+        ensures bytes { Writes (⟦<SureSink as Sink>⟧.taken self.old) (⟦<SureSink as Sink>⟧.taken self.new)
+            result bytes.now }
+        ensures cause { HasCause 0 0 result }
+        ensures all { result ≡ Ok (length bytes.now) }
+        ensures kept { kept_of self.new ≡ take (room_of self.old) (kept_of self.old ++ bytes.now) }
+        ensures same_room { room_of self.new ≡ room_of self.old }
+        ensures still_tells { IsSome (⟦<SureSink as Sink>⟧.taken self.new)
+            ↔ (IsSome (⟦<SureSink as Sink>⟧.taken self.old)
+            × (length (kept_of self.old) + length bytes.now ≤ room_of self.old)) }
+    {
         let n = bytes.len().min(self.room - self.taken.len());
         if n < bytes.len() {
             self.full = true;
         }
-        if self.taken.extend_from_slice(&bytes[..n]).is_err() {
-            self.full = true;
+        match self.taken.extend_from_slice(&bytes[..n]) {
+            Ok(()) => Ok(bytes.len()),
+            Err(_) => unreachable!(),
         }
-        Ok(bytes.len())
     }
 }

@@ -184,16 +184,40 @@ fn workers_tell_their_gate(rt: HostRuntime) -> Result<(), Fail> {
     let Ok(interned) = intern_all(&rt, alloc, &mut registry, &mut pass, &tables, 3, &gate) else {
         return Err("memory")?;
     };
-    let Ok([a, b, c, d, e]) = <[u64; 5]>::try_from(interned.numbers()) else {
-        return Err("five tables were given")?;
-    };
-    let zero = [Call::before(0), Call::building(0), Call::after(0, a)];
-    let one = [Call::before(1), Call::building(1), Call::after(1, b)];
+    let numbers = interned.numbers();
+    assert!(rt; numbers.len() == 5);
+    let zero = [
+        Call::before(0),
+        Call::building(0),
+        Call::after(0, numbers[0]),
+    ];
+    let one = [
+        Call::before(1),
+        Call::building(1),
+        Call::after(1, numbers[1]),
+    ];
     assert!(rt; gate.heard(0, &[zero[0], zero[1], zero[2], one[0], one[1], one[2]]));
-    let two = [Call::before(2), Call::building(2), Call::after(2, c)];
-    let three = [Call::before(3), Call::building(3), Call::after(3, d)];
+    let two = [
+        Call::before(2),
+        Call::building(2),
+        Call::after(2, numbers[2]),
+    ];
+    let three = [
+        Call::before(3),
+        Call::building(3),
+        Call::after(3, numbers[3]),
+    ];
     assert!(rt; gate.heard(1, &[two[0], two[1], two[2], three[0], three[1], three[2]]));
-    assert!(rt; gate.heard(2, &[Call::before(4), Call::building(4), Call::after(4, e)]));
+    assert!(rt;
+        gate.heard(
+            2,
+            &[
+                Call::before(4),
+                Call::building(4),
+                Call::after(4, numbers[4])
+            ]
+        )
+    );
     Ok(())
 }
 

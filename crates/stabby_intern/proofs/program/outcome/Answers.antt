@@ -1,52 +1,61 @@
-use Rattle.std.proofs.Common.{refl, inl, inr, ap, Err}
-use Rattle.stabby_intern.proofs.Clean.{never_bad, never_lines, same_line}
-use Rattle.stabby_intern.proofs.Moved.{took_nothing}
-use Rattle.stabby_intern.specs.declared.status.Status.TheVariants.{BadWord}
+use Rattle.std.proofs.Common.{rules, refl, inr, ap, Err}
+use Rattle.stabby_registry.proofs.GoingOn.{goes_on_same}
 use Rattle.stabby_registry.specs.Passes.{front_of}
+use Rattle.stabby_intern.specs.declared.status.Status.TheVariants.{Ok, WriteFault}
+use Rattle.stabby_intern.specs.Runs.{run_of, Says}
+use Rattle.stabby_intern.proofs.Endings.{comes}
+use Rattle.stabby_intern.proofs.Moved.{took_nothing}
 use Rattle.stabby_intern.proofs.program.outcome.Goals as goal
 
-pub returns-in_default-clause-usage : goal.returns-in_default-clause-usage
-returns-in_default-clause-usage g c e = c.in_default.ensures.none refl
+pub returns-in_default-clause-says : goal.returns-in_default-clause-says
+returns-in_default-clause-says g c = record { no_command = c.in_default.ensures.none refl; nothing_added = c.requires.empty; no_read_failed = refl; no_write_failed = refl }
 
-pub returns-in-Err-Memory-report_of-clause-memory :
-    goal.returns-in-Err-Memory-report_of-clause-memory
-returns-in-Err-Memory-report_of-clause-memory g c e = record {
-  nothing_taken = took_nothing (g.K.Sink.taken c.args.out.now);
-  some = inr (c.in-Ok.text.items, c.in-Ok.ensures.bytes, rw c.deref.ensures.value at (c.in-Err-Memory-report_of.ensures.memory (ap Err c.in-Err-Memory-report_of.field-0-is)));
+pub returns-in-Err-Memory-report_of-clause-says : goal.returns-in-Err-Memory-report_of-clause-says
+returns-in-Err-Memory-report_of-clause-says g c = record {
+  command = (c.in-Some.command.task, c.in-Some.command.workers, c.in-Some.ensures.some);
+  nothing_written = took_nothing (g.K.Sink.taken c.args.out.now);
+  some_added = inr (c.in-Ok.text.items, c.in-Ok.ensures.bytes, rw c.deref.ensures.value at (c.in-Err-Memory-report_of.ensures.memory (ap Err c.in-Err-Memory-report_of.field-0-is)));
+  no_read_failed = c.in-Ok.ensures.kept (λ e. absurd (cc));
+  no_write_failed = refl;
 }
 
-pub returns-in-Err-BadWord-clause-bad_word : goal.returns-in-Err-BadWord-clause-bad_word
-returns-in-Err-BadWord-clause-bad_word g c line e =
-    let bad = rw c.deref.ensures.value at (c.in-Err-BadWord.ensures.bad_word line (cc e)) in
-    record { bytes = c.in-Ok.text.items; read = c.in-Ok.ensures.bytes; bad = bad.0; nothing_taken = took_nothing (g.K.Sink.taken c.args.out.now); nothing_added = bad.1 }
-
--- without a fault and over a told input that spells tables the run answers Ok, or memory ran out
-pub returns-in_default-clause-complete : goal.returns-in_default-clause-complete
-returns-in_default-clause-complete g c clean = absurd (c.in_default.ensures.none refl clean.task clean.workers clean.command)
-
-pub returns-in-Err-BadWord-clause-complete : goal.returns-in-Err-BadWord-clause-complete
-returns-in-Err-BadWord-clause-complete g c clean =
+pub returns-in-Err-BadWord-clause-says : goal.returns-in-Err-BadWord-clause-says
+returns-in-Err-BadWord-clause-says g c =
     let bad = rw c.deref.ensures.value at (c.in-Err-BadWord.ensures.bad_word c.in-Err-BadWord.line (cc)) in
-    let taken = g.K.Sink.taken c.args.out.now in
-    absurd (never_bad _ _ taken taken (front_of c.report_of.new.pass) c.in-Err-BadWord.line clean.bytes clean.tables clean.told clean.still_told clean.lines
-    (record { bytes = c.in-Ok.text.items; read = c.in-Ok.ensures.bytes; bad = bad.0; nothing_taken = took_nothing taken; nothing_added = bad.1 }))
+    record {
+      command = (c.in-Some.command.task, c.in-Some.command.workers, c.in-Some.ensures.some);
+      bytes = c.in-Ok.text.items;
+      read = c.in-Ok.ensures.bytes;
+      bad = bad.0;
+      nothing_written = took_nothing (g.K.Sink.taken c.args.out.now);
+      nothing_added = bad.1;
+      no_read_failed = c.in-Ok.ensures.kept (λ e. absurd (cc));
+      no_write_failed = refl;
+    }
 
--- over a told input with a bad line the run names that line, or memory ran out
-pub returns-in_default-clause-bad_word_exactly : goal.returns-in_default-clause-bad_word_exactly
-returns-in_default-clause-bad_word_exactly g c line clean = absurd (c.in_default.ensures.none refl clean.task clean.workers clean.command)
+pub returns-in_default-clause-goes_on : goal.returns-in_default-clause-goes_on
+returns-in_default-clause-goes_on g c = goes_on_same c.args.pass.now
 
-pub returns-in-Err-BadWord-clause-bad_word_exactly : goal.returns-in-Err-BadWord-clause-bad_word_exactly
-returns-in-Err-BadWord-clause-bad_word_exactly g c line clean =
-    let bad = rw c.deref.ensures.value at (c.in-Err-BadWord.ensures.bad_word c.in-Err-BadWord.line (cc)) in
-    inl (ap BadWord (same_line _ _ clean.bytes c.in-Ok.text.items clean.told clean.still_told c.in-Ok.ensures.bytes line c.in-Err-BadWord.line clean.bad bad.0))
+pub returns-in-Err-Memory-clause-goes_on : goal.returns-in-Err-Memory-clause-goes_on
+returns-in-Err-Memory-clause-goes_on g c = goes_on_same c.args.pass.now
 
-pub returns-in-Ok-write_all-clause-bad_word_exactly :
-    goal.returns-in-Ok-write_all-clause-bad_word_exactly
-returns-in-Ok-write_all-clause-bad_word_exactly g c line clean =
-    let done = rw c.deref.ensures.value at c.in-Ok-report_of.ensures.ok in
-    absurd (never_lines _ _ clean.bytes c.in-Ok.text.items clean.told clean.still_told c.in-Ok.ensures.bytes done.tables line clean.bad done.lines)
+pub returns-in-Err-Failed-clause-goes_on : goal.returns-in-Err-Failed-clause-goes_on
+returns-in-Err-Failed-clause-goes_on g c = goes_on_same c.args.pass.now
 
-pub returns-clause-bad_word_exactly : goal.returns-clause-bad_word_exactly
-returns-clause-bad_word_exactly g c line clean =
-    let done = rw c.deref.ensures.value at c.in-Ok-report_of.ensures.ok in
-    absurd (never_lines _ _ clean.bytes c.in-Ok.text.items clean.told clean.still_told c.in-Ok.ensures.bytes done.tables line clean.bad done.lines)
+pub returns-in-Err-TooLong-clause-goes_on : goal.returns-in-Err-TooLong-clause-goes_on
+returns-in-Err-TooLong-clause-goes_on g c = goes_on_same c.args.pass.now
+
+-- where each status comes, from what it says
+pub returns-in_default-clause-comes : goal.returns-in_default-clause-comes
+returns-in_default-clause-comes g c = comes _ _ (returns-in_default-clause-says g c)
+
+pub returns-in-Err-BadWord-clause-comes : goal.returns-in-Err-BadWord-clause-comes
+returns-in-Err-BadWord-clause-comes g c = comes _ _ (returns-in-Err-BadWord-clause-says g c)
+
+pub returns-in-Ok-write_all-clause-comes : goal.returns-in-Ok-write_all-clause-comes
+returns-in-Ok-write_all-clause-comes g c =
+    let says : Says (run_of g.S.Source g.K.Sink c.args.words.now c.args.source.now c.read_to_end.new.source c.args.out.now c.write_all.new.out (front_of c.report_of.new.pass)) Ok = search rules in comes _ _ says
+
+pub returns-clause-comes : goal.returns-clause-comes
+returns-clause-comes g c =
+    let says : Says (run_of g.S.Source g.K.Sink c.args.words.now c.args.source.now c.read_to_end.new.source c.args.out.now c.write_all.new.out (front_of c.report_of.new.pass)) WriteFault = search rules in comes _ _ says

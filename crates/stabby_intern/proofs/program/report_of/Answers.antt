@@ -1,6 +1,7 @@
 use Rattle.std.proofs.lemmas.Result.{err_from_is_err_and}
 use Rattle.stabby_intern.proofs.Reporting.{bad_line, partly, reported, entries_in_order, entries_distinct}
 use Rattle.stabby_registry.specs.Passes.{front_of}
+use Rattle.stabby_registry.proofs.GoingOn.{goes_on_same}
 use Rattle.stabby_intern.proofs.program.report_of.Goals as goal
 
 pub returns-in_err-tables-clause-bad_word : goal.returns-in_err-tables-clause-bad_word
@@ -9,7 +10,7 @@ returns-in_err-tables-clause-bad_word g c line e =
     (bad_line c.args.text.now line (c.in_err-tables.ensures.bad_word line (cc (p.1, p.2, e))), c.requires.empty)
 
 pub returns-in_err-interned-clause-memory : goal.returns-in_err-interned-clause-memory
-returns-in_err-interned-clause-memory g c e = partly c.args.text.now _ _ _ c.in_ok-tables.ensures.tables c.requires.empty (rw c.deref.ensures.value at c.in_err-interned.ensures.err)
+returns-in_err-interned-clause-memory g c e = partly c.args.text.now _ _ _ c.in_ok-tables.ensures.tables c.requires.empty (rw c.deref.ensures.value at c.in_err-interned.ensures.some_added)
 
 pub returns-in_err-make_report-clause-memory : goal.returns-in_err-make_report-clause-memory
 returns-in_err-make_report-clause-memory g c e =
@@ -34,3 +35,6 @@ returns-clause-ok g c =
     c.in_ok-interned.ensures.entries
     c.in_ok-interned.ensures.first
     c.in_ok-make_report.ensures.report
+
+pub returns-in_err-tables-clause-goes_on : goal.returns-in_err-tables-clause-goes_on
+returns-in_err-tables-clause-goes_on g c = goes_on_same c.args.pass.now
