@@ -1,16 +1,16 @@
 -- What is refused as no record is the spelling of no schema.
-use Rattle.std.proofs.Common.{◌≡◌, ◌+◌, ◌-◌, ◌≤◌, ◌<◌, ◌^◌, ℕ, List, [], ◌∷◌, ◌++◌, length, refl, arith, ap, sym, ◌∙◌, append_assoc, Option, Some, None, take, subst, length-append, max, Result, Ok, Err, IfOk, IsErrOf}
+use Rattle.std.proofs.Common.{◌≡◌, ◌+◌, ◌-◌, ◌≤◌, ◌<◌, ◌^◌, ℕ, List, [], ◌∷◌, ◌++◌, length, refl, arith, ap, sym, ◌∙◌, append_assoc, Some, None, take, subst, length-append, Result, Ok, Err, IfOk, IsErrOf}
 use Rattle.std.proofs.Math.Seq.{take-append_seam}
 use Rattle.std.proofs.lemmas.Bool.Decides.{nat_tests}
 use Rattle.std.specs.Int.{to_le_bytes, w64}
 use Rattle.std.specs.Str.{IsUtf8}
-use Rattle.stabby_record.specs.Shape.{Fields, end, number, nested, Shape, count, leaves, depth, depth_below, Number, one, two, four, eight}
-use Rattle.stabby_record.specs.Limits.{AreFields, AreTexts, IsSchema}
-use Rattle.stabby_record.specs.Message.{name_bytes, spelled, spelling, head}
+use Rattle.stabby_record.specs.Shape.{Fields, end, number, nested, Shape, count, leaves, depth, Number, one, two, four, eight}
+use Rattle.stabby_record.specs.Limits.{AreFields, IsSchema}
+use Rattle.stabby_record.specs.Message.{name_bytes, spelled, spelling}
 use Rattle.stabby_record.specs.Kinds.{kind_code, kind_spelled, IsKind, kind_depth}
 use Rattle.stabby_record.specs.Read.{fields_of, with_field}
 use Rattle.stabby_record.specs.Refuse.{schema_fault, first_long_name}
-use Rattle.stabby_record.specs.Described.{ReadsKind, ReadsFields, BeginsWith, MayStand, NoNameBegins, NoIdBegins, NoByteBegins, NoKindBegins, NoFieldsBegin, NoSpellingBegins, NoHeadBegins}
+use Rattle.stabby_record.specs.Described.{ReadsKind, ReadsFields, MayStand, NoNameBegins, NoIdBegins, NoByteBegins, NoKindBegins, NoFieldsBegin, NoSpellingBegins, NoHeadBegins}
 use Rattle.stabby_record.specs.declared.schema.Field.{Field}
 use Rattle.stabby_record.specs.declared.schema.Kind.{Kind}
 use Rattle.stabby_record.specs.declared.schema.Kind.TheVariants as kind

@@ -1,5 +1,5 @@
 -- What is read of a schema's spelling, and the bytes after it.
-use Rattle.std.specs.Prelude.{◌≡◌, ◌≤◌, ◌<◌, ◌^◌, ℕ, List, ◌∷◌, ◌++◌, length}
+use Rattle.std.specs.Prelude.{◌≡◌, ◌≤◌, ℕ, List, ◌∷◌, ◌++◌, length}
 use Rattle.std.specs.Int.{to_le_bytes, w64}
 use Rattle.std.specs.Str.{IsUtf8}
 use Rattle.stabby_record.specs.Shape.{Shape, Fields, count, leaves, depth, depth_below}

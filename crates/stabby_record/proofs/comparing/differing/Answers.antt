@@ -1,5 +1,4 @@
-use Rattle.std.proofs.Common.{◌≡◌, ◌+◌, ◌≤◌, ◌⊎◌, inl, inr, length, arith, sym, ◌∙◌}
-use Rattle.std.proofs.lemmas.Bool.{cases_lt}
+use Rattle.std.proofs.Common.{◌+◌, length, arith, sym, ◌∙◌}
 use Rattle.stabby_record.proofs.Heads.{both_ended, one_side}
 use Rattle.stabby_record.proofs.comparing.differing.Goals as goal
 

@@ -1,4 +1,4 @@
-use Rattle.std.proofs.Common.{◌≡◌, ◌+◌, ◌-◌, ◌≤◌, ◌<◌, ℕ, List, [], rules, arith}
+use Rattle.std.proofs.Common.{◌-◌, arith}
 use Rattle.std.proofs.lemmas.Result.{err_from_is_err_and}
 use Rattle.stabby_record.proofs.Begun.{spelled_whole}
 use Rattle.stabby_record.proofs.Unread.{no_fields_by_name, no_fields_by_kind, no_fields_by_rest, one_more_field, if_ok_map, no_spelling_by_id, no_spelling_by_count, no_spelling_by_fields, no_spelling_by_fault, same_error}

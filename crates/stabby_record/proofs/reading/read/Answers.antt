@@ -1,4 +1,4 @@
-use Rattle.std.proofs.Common.{◌≡◌, ◌++◌, ℕ, List, None, arith, length, take, drop, ◌∙◌, ap, sym}
+use Rattle.std.proofs.Common.{◌≡◌, None, arith, length, take, drop, ◌∙◌, ap}
 use Rattle.stabby_record.proofs.Bounds.{few_places, size_bounds}
 use Rattle.stabby_record.proofs.Decoded.{read_whole, whole_length}
 use Rattle.stabby_record.proofs.Again.{read_again, nothing_misread}
