@@ -10,3 +10,4 @@ pub mod Joining
 pub mod Trying
 pub mod Agreeing
 pub mod GoingOn
+pub mod Sending

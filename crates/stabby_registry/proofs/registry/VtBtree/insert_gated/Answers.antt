@@ -2,8 +2,11 @@ use Rattle.std.proofs.Common.{inl, inr}
 use Rattle.std.proofs.lemmas.Result.{err_from_is_err_and}
 use Rattle.stabby_cell.proofs.CallLemmas.{no_commit_looked}
 use Rattle.stabby_registry.proofs.Inserting.{inserted_there, not_known, full_front}
-use Rattle.stabby_registry.proofs.PassLemmas.{then_looked}
+use Rattle.stabby_registry.proofs.PassLemmas.{nothing_done, then_looked}
 use Rattle.stabby_registry.proofs.registry.VtBtree.insert_gated.Goals as goal
+
+pub loop-init : goal.loop-init
+loop-init g c = record { own = c.requires; so_far = nothing_done _ }
 
 pub returns-in_err-number-clause-refused : goal.returns-in_err-number-clause-refused
 returns-in_err-number-clause-refused g c =
