@@ -1,36 +1,57 @@
-//! Commits as often as each line of the input says, and prints the stamp that the cell reached.
+//! Commits, loads or stores as often as each line of the input says, and prints the stamp that the cell reached.
 #![tactic(auto)]
 
-ghost use Rattle.stabby_cell.specs.Passes.{IsPassOf};
+mod numbers;
+mod shared;
 
-use stabby_cell::{Pass, TurnCell};
-use stabby_cell_uses::{Counter, add_one};
+use numbers::commit;
+use shared::{Work, work_in_threads};
 use std::io;
-use std::sync::Wait;
 
-/// Adds one so many times, each time under a turn of its own.
-fn add_times<H: Wait>(rt: &H, cell: &TurnCell<Counter>, pass: &mut Pass<Counter>, count: u64)
-    requires { IsPassOf cell.now pass.old }
-    ensures pass { IsPassOf cell.now pass.new }
-{
-    for _ in 0..count {
-        let _ = add_one(rt, cell, pass);
+/// A line of the input.
+#[derive(Clone, Copy)]
+enum Order {
+    /// A cell of numbers that keeps so many versions, and how often to commit.
+    Commit(usize, u64),
+    /// A shared value, what so many threads do with it, and how often each.
+    Share(Work, u64, u64),
+}
+
+fn parse(line: &str) -> Option<Order> {
+    let (name, numbers) = line.split_once(' ')?;
+    let (first, second) = numbers.split_once(' ')?;
+    let Ok(count) = second.parse::<u64>() else {
+        return None;
+    };
+    if name == "commit" {
+        return match first.parse::<usize>() {
+            Ok(keep) => Some(Order::Commit(keep, count)),
+            Err(_) => None,
+        };
+    }
+    let Ok(threads) = first.parse::<u64>() else {
+        return None;
+    };
+    match name {
+        "load" => Some(Order::Share(Work::Load, threads, count)),
+        "store" => Some(Order::Share(Work::Store, threads, count)),
+        _ => None,
     }
 }
 
 fn main(rt: HostRuntime) -> io::Result<()> {
     for line in rt.lines(rt.alloc()) {
         let line = line?;
-        let Ok(count) = line.as_str().parse::<u64>() else {
-            println!(rt; "not a count")?;
-            continue;
-        };
-        match TurnCell::new(rt.alloc(), Counter { number: 0 }, 0) {
-            Err(_) => println!(rt; "no memory")?,
-            Ok((cell, mut pass)) => {
-                add_times(&rt, &cell, &mut pass, count);
-                println!(rt; "{}", pass.seen())?;
+        let reached = match parse(line.as_str()) {
+            None => None,
+            Some(Order::Commit(keep, count)) => commit(&rt, rt.alloc(), keep, count),
+            Some(Order::Share(work, threads, count)) => {
+                work_in_threads(&rt, rt.alloc(), work, threads, count)
             }
+        };
+        match reached {
+            Some(stamp) => println!(rt; "{stamp}")?,
+            None => println!(rt; "not done")?,
         }
     }
     Ok(())

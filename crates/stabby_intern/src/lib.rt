@@ -25,6 +25,7 @@ pub use program::run;
 pub use standard::{StderrSink, StdinSource, StdoutSink};
 pub use status::Status;
 pub use sure::{SureSink, SureSource};
+pub use transfer::{ReadFault, read_to_end, write_all};
 
 #[cfg(test)]
 mod device_tests;
