@@ -3,7 +3,7 @@ use crate::{
     AnyVt, H, HasDropVt, HasSendVt, HasSyncVt, IConstConstructor, IterVt, T, TransitiveDeref,
     VTable, VtDrop, VtSend, VtSync,
 };
-use stabby_registry::{ListsWords, VTableRegistry, VtBtree, WordTable};
+use stabby_registry::ListsWords;
 use std::test::Fail;
 
 type Nested = VtSync<VTable<IterVt, VtSend<VTable<AnyVt>>>>;
@@ -69,29 +69,5 @@ fn each_growing_call_succeeds(rt: HostRuntime) -> Result<(), Fail> {
         return Err("memory")?;
     };
     assert_eq!(rt; words.words(), &[3u64, 9, 2][..]);
-    Ok(())
-}
-
-// The number of a table of the words 5, 3 and 4, and then of the table with 3 below 9.
-#[test]
-fn registry_calls(rt: HostRuntime) -> Result<(), Fail> {
-    let alloc = rt.alloc();
-    let Ok((registry, mut pass)) = VtBtree::<5>::new(alloc) else {
-        return Err("memory")?;
-    };
-    for word in [5, 3, 4] {
-        let Ok(_) = registry.insert_typed(&rt, alloc, &mut pass, &VtDrop { word }) else {
-            return Err("memory")?;
-        };
-    }
-    let table: VTable<AnyVt> = VTable {
-        tail: VtDrop { word: 3 },
-        head: AnyVt { word: 9 },
-    };
-    assert!(rt; registry.insert_typed(&rt, alloc, &mut pass, &table) == Ok(3));
-    let Some(fourth) = registry.entry(&rt, &mut pass, 3).map_err(|_| "memory")? else {
-        return Err("number 3 was given")?;
-    };
-    assert_eq!(rt; fourth.words(), &[3u64, 9][..]);
     Ok(())
 }
