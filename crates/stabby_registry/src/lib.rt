@@ -37,6 +37,4 @@ pub use table::WordTable;
 pub use vtable_registry::VTableRegistry;
 
 #[cfg(test)]
-mod gate_tests;
-#[cfg(test)]
 mod tests;
