@@ -5,4 +5,6 @@ pub mod Telling
 pub mod ByNumber
 pub mod Reporting
 pub mod Clean
+pub mod Asked
+pub mod Counting
 pub mod Endings

@@ -44,13 +44,21 @@ spelled_step ws i between lt is =
     let size : length (take i ws) ≡ i = grind (arith, common_steps) in
     rw (take_more ws i 0 lt) (word_by between (take i ws) (get_or ws i 0) (rw size is))
 
-numbers_part : (ts f us : List Table) → HoldsEachOnce ts f → ((u : Table) → has us u ≡ true → has ts u ≡ true)
-    → map decimal (map (entry_place (ordered f)) (map (place f) us)) ≡ map (λ t. decimal (rank (distinct ts) t)) us
-numbers_part ts f [] holds members = refl
-numbers_part ts f (u ∷ us) holds members =
+-- the places of the entries are the ranks
+pub ranks_part : (ts f us : List Table) → HoldsEachOnce ts f → ((u : Table) → has us u ≡ true → has ts u ≡ true)
+    → map (entry_place (ordered f)) (map (place f) us) ≡ map (rank (distinct ts)) us
+ranks_part ts f [] holds members = refl
+ranks_part ts f (u ∷ us) holds members =
     let first : has ts u ≡ true = members u (rw (same_itself u) refl) in
     let rest : (w : Table) → has us w ≡ true → has ts w ≡ true = λ w m. members w (elim (is_same u w) as (λ b. (if b then true else has us w) ≡ true) [ true ↦ refl | false ↦ m ]) in
-    rw (rank_by_entries ts f u holds first, numbers_part ts f us holds rest) refl
+    rw (rank_by_entries ts f u holds first, ranks_part ts f us holds rest) refl
+
+decimals : (g : Table → ℕ) (us : List Table) → map decimal (map g us) ≡ map (λ t. decimal (g t)) us
+decimals g [] = refl
+decimals g (u ∷ us) = ap (λ l. decimal (g u) ∷ l) (decimals g us)
+
+numbers_part : (ts f : List Table) → HoldsEachOnce ts f → map decimal (map (entry_place (ordered f)) (map (place f) ts)) ≡ map (λ t. decimal (rank (distinct ts) t)) ts
+numbers_part ts f holds = ap (map decimal) (ranks_part ts f ts holds (λ u m. m)) ∙ decimals (rank (distinct ts)) ts
 
 tables_part : (f s : List Table) → map (λ (e : Table × ℕ). spelled e.0) (map (λ t. (t, place f t)) s) ≡ map spelled s
 tables_part f [] = refl
@@ -60,15 +68,11 @@ rank_report_is : (ts f : List Table) (numbers : List ℕ) (entries : List (Table
     → ended (map decimal (map (entry_place entries) numbers)) ++ ended (map (λ (e : Table × ℕ). spelled e.0) entries) ≡ rank_report ts
 rank_report_is ts f numbers entries holds numbered in_order =
     let members : (t : Table) → has f t ≡ has (distinct ts) t = λ t. holds.members t ∙ sym (has_distinct ts t) in
-    rw (in_order, numbered, numbers_part ts f ts holds (λ u m. m), tables_part f (increasing f), increasing_unique f (distinct ts) members) refl
-
-places_part : (f us : List Table) → map decimal (map (place f) us) ≡ map (λ t. decimal (place f t)) us
-places_part f [] = refl
-places_part f (u ∷ us) = ap (λ l. decimal (place f u) ∷ l) (places_part f us)
+    rw (in_order, numbered, numbers_part ts f holds, tables_part f (increasing f), increasing_unique f (distinct ts) members) refl
 
 number_report_is : (ts f : List Table) (numbers : List ℕ) (entries : List (Table × ℕ)) → IsDistinct f → numbers ≡ map (place f) ts → entries ≡ ordered f
     → ended (map decimal numbers) ++ ended (map spelled (listed entries)) ≡ number_report ts f
-number_report_is ts f numbers entries once numbered in_order = rw (in_order, numbered, places_part f ts, listed-ordered f once) refl
+number_report_is ts f numbers entries once numbered in_order = rw (in_order, numbered, decimals (place f) ts, listed-ordered f once) refl
 
 -- the text that is made of the numbers and the entries is the report of the task
 report_is : (task : Task) (ts f : List Table) (interned : InternedValue) → HoldsEachOnce ts f → interned.numbers ≡ map (place f) ts → interned.entries ≡ ordered f → text_of task interned ≡ task_report task ts f

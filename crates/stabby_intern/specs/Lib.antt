@@ -1,4 +1,5 @@
 pub mod Commands
+pub mod Generated
 pub mod Devices
 pub mod Memory
 pub mod Sure

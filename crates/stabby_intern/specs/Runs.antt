@@ -5,7 +5,8 @@ use Rattle.stabby_tables.specs.Lists.{place, HoldsEachOnce, AppendsSome}
 use Rattle.stabby_tables.specs.Shares.{IsFirstInShare}
 use Rattle.stabby_tables.specs.Lines.{IsLines, IsBadLine}
 use Rattle.stabby_tables.specs.Reports.{rank_report, number_report}
-use Rattle.stabby_intern.specs.Commands.{IsCommand, IsNoCommand}
+use Rattle.stabby_intern.specs.Commands.{IsCommand, IsGeneration, IsNoCommand}
+use Rattle.stabby_intern.specs.Generated.{generated_tables, generated_report}
 use Rattle.stabby_intern.specs.Devices.{Gave, Took, Rose}
 use Rattle.stabby_intern.specs.declared.command.Task.{Task}
 use Rattle.stabby_intern.specs.declared.command.Task.TheVariants as tasks
@@ -38,13 +39,20 @@ pub record Run : Type 0 where
   pub out : Device
   pub front : List Table
 
+abbrev pub source_of : {S : Type 0} → from.Ghosts S → S → S → Device
+source_of source before after = record { told = source.left before; told_after = source.left after; faults = source.faults before; faults_after = source.faults after }
+
+abbrev pub sink_of : {K : Type 0} → to.Ghosts K → K → K → Device
+sink_of sink before after = record { told = sink.taken before; told_after = sink.taken after; faults = sink.faults before; faults_after = sink.faults after }
+
+abbrev pub run_between : List (List ℕ) → Device → Device → List Table → Run
+run_between words source out front = record { words = words; source = source; out = out; front = front }
+
+abbrev pub run_with : {S K : Type 0} → from.Ghosts S → to.Ghosts K → List (List ℕ) → S → S → K → K → List Table → Run
+run_with source sink words source_before source_after out_before out_after front = run_between words (source_of source source_before source_after) (sink_of sink out_before out_after) front
+
 abbrev pub run_of : {Z S K : Type 0} → from.Ghosts S → to.Ghosts K → List (String Z) → S → S → K → K → List Table → Run
-run_of source sink words source_before source_after out_before out_after front = record {
-  words = map string_bytes words;
-  source = record { told = source.left source_before; told_after = source.left source_after; faults = source.faults source_before; faults_after = source.faults source_after };
-  out = record { told = sink.taken out_before; told_after = sink.taken out_after; faults = sink.faults out_before; faults_after = sink.faults out_after };
-  front = front;
-}
+run_of source sink words source_before source_after out_before out_after front = run_with source sink (map string_bytes words) source_before source_after out_before out_after front
 
 -- no call of the device failed
 abbrev pub NoFault : Device → Type 0
@@ -54,9 +62,13 @@ NoFault device = device.faults_after ≡ device.faults
 abbrev pub NothingWritten : Device → Type 0
 NothingWritten out = Took out.told out.told_after []
 
--- the words are a command
+-- the words ask for a report on the input
 abbrev pub HasCommand : List (List ℕ) → Type 0
 HasCommand words = (task : Task) × (workers : ℕ) × IsCommand words task workers
+
+-- the words ask for generated tables
+abbrev pub HasGeneration : List (List ℕ) → Type 0
+HasGeneration words = (tables : ℕ) × (divisor : ℕ) × (workers : ℕ) × IsGeneration words tables divisor workers
 
 -- ---- what each status says
 -- the source gave these bytes, and no told byte is left
@@ -158,15 +170,55 @@ pub record WriteFaultRun (r : Run) : Type 0 where
   pub failed : Rose r.out.faults r.out.faults_after
   pub no_read_failed : NoFault r.source
 
+-- ---- the same of generated tables, for which nothing is read
+-- Ok: the sink took the counts, and the registry holds exactly the generated tables, each numbered by the place where it
+-- was added
+pub record GeneratedRun (r : Run) : Type 0 where
+  pub count : ℕ
+  pub divisor : ℕ
+  pub workers : ℕ
+  pub generation : IsGeneration r.words count divisor workers
+  pub report : Took r.out.told r.out.told_after (generated_report count divisor)
+  pub holds : HoldsEachOnce (generated_tables count divisor) r.front
+  pub first : IsFirstInShare (map (place r.front) (generated_tables count divisor)) workers 0
+  pub no_read_failed : NoFault r.source
+  pub no_write_failed : NoFault r.out
+
+-- Memory: memory ran out before anything was written; some of the generated tables were added, each once
+pub record GeneratedMemoryRun (r : Run) : Type 0 where
+  pub count : ℕ
+  pub divisor : ℕ
+  pub workers : ℕ
+  pub generation : IsGeneration r.words count divisor workers
+  pub nothing_written : NothingWritten r.out
+  pub some_added : AppendsSome [] (generated_tables count divisor) r.front
+  pub no_read_failed : NoFault r.source
+  pub no_write_failed : NoFault r.out
+
+-- WriteFault: a write failed; a proper part of the counts was taken, and the registry holds the generated tables
+pub record GeneratedWriteFaultRun (r : Run) : Type 0 where
+  pub count : ℕ
+  pub divisor : ℕ
+  pub workers : ℕ
+  pub generation : IsGeneration r.words count divisor workers
+  pub holds : HoldsEachOnce (generated_tables count divisor) r.front
+  pub first : IsFirstInShare (map (place r.front) (generated_tables count divisor)) workers 0
+  pub written : ℕ
+  pub proper : written < length (generated_report count divisor)
+  pub part : Took r.out.told r.out.told_after (take written (generated_report count divisor))
+  pub failed : Rose r.out.faults r.out.faults_after
+  pub no_read_failed : NoFault r.source
+
+-- ---- by status
 -- what a status says of its run
 abbrev pub Says : Run → Status → Type 0
-Says r Ok = OkRun r
-Says r Memory = MemoryRun r
+Says r Ok = OkRun r ⊎ GeneratedRun r
+Says r Memory = MemoryRun r ⊎ GeneratedMemoryRun r
 Says r Usage = UsageRun r
 Says r (BadWord line) = BadLineRun r line
 Says r TooLong = TooLongRun r
 Says r ReadFault = ReadFaultRun r
-Says r WriteFault = WriteFaultRun r
+Says r WriteFault = WriteFaultRun r ⊎ GeneratedWriteFaultRun r
 
 -- ---- when each status comes
 -- the words are a command, and the source told its bytes throughout, these, without a fault
@@ -198,9 +250,15 @@ pub record CleanLongRun (r : Run) : Type 0 where
   pub input : ToldRun r bytes
   pub too_long : input_limit < length bytes
 
+-- the words ask for generated tables, and no write failed
+pub record CleanGeneration (r : Run) : Type 0 where
+  pub generation : HasGeneration r.words
+  pub no_write_fault : Rose r.out.faults r.out.faults_after → ⊥
+
 -- A status comes where its cause is given; only for want of memory can `Memory` come in its place.
 pub record Comes (r : Run) (status : Status) : Type 0 where
   pub ok : CleanRun r → (status ≡ Ok) ⊎ (status ≡ Memory)
+  pub generated : CleanGeneration r → (status ≡ Ok) ⊎ (status ≡ Memory)
   pub usage : IsNoCommand r.words → status ≡ Usage
   pub bad_word : (line : ℕ) → CleanBadRun r line → (status ≡ BadWord line) ⊎ (status ≡ Memory)
   pub too_long : CleanLongRun r → (status ≡ TooLong) ⊎ (status ≡ Memory)
@@ -215,3 +273,9 @@ pub record Reported (task : Task) (text : List ℕ) (workers : ℕ) (front : Lis
   pub is_report : report ≡ task_report task tables front
   pub holds : HoldsEachOnce tables front
   pub first : IsFirstInShare (map (place front) tables) workers 0
+
+-- the generated tables, and what the registry and the report have of them
+pub record CountsReported (count divisor workers : ℕ) (front : List Table) (report : List ℕ) : Type 0 where
+  pub is_report : report ≡ generated_report count divisor
+  pub holds : HoldsEachOnce (generated_tables count divisor) front
+  pub first : IsFirstInShare (map (place front) (generated_tables count divisor)) workers 0

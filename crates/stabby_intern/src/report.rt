@@ -1,6 +1,6 @@
 //! The text of a report.
 
-ghost use Rattle.std.specs.Prelude.{◌≡◌, ◌++◌, ◌∷◌, ◌<◌, ℕ, [], length, map, IfOk, IfErr, OnOk, All, if◌then◌else◌};
+ghost use Rattle.std.specs.Prelude.{◌≡◌, ◌++◌, ◌∷◌, ◌<◌, ◌≤◌, ◌^◌, ℕ, [], length, map, sum, IfOk, IfErr, OnOk, All, if◌then◌else◌};
 ghost use Rattle.std.specs.List.{range_with_len};
 ghost use Rattle.std.specs.Fmt.{decimal};
 ghost use Rattle.stabby_tables.specs.Lists.{ordered, IsDistinct};
@@ -8,7 +8,8 @@ ghost use Rattle.stabby_tables.specs.Lines.{ended};
 ghost use Rattle.stabby_tables.specs.Reports.{spelled};
 ghost use Rattle.stabby_registry.specs.Catalog.{listed};
 ghost use Rattle.stabby_registry.specs.Interned.{CanRank};
-ghost use Rattle.stabby_intern.specs.Printing.{text_of, table_in};
+ghost use Rattle.stabby_intern.specs.Commands.{generation_limit};
+ghost use Rattle.stabby_intern.specs.Printing.{text_of, counts_of, table_in};
 
 use crate::command::Task;
 use itoa::Buffer;
@@ -32,6 +33,42 @@ pub fn make_report(
         Task::Ranks => make_rank_report(alloc, interned),
         Task::Numbers => make_number_report(alloc, interned),
     }
+}
+
+/// How many tables were interned, how many entries there are, and the sum of the ranks, a line for each.
+pub fn make_count_report(alloc: Global, interned: &Interned) -> Result<Vec<u8>, AllocationError>
+    requires can_rank { CanRank interned.now.entries interned.now.numbers }
+    requires few_tables { length interned.now.numbers ≤ generation_limit }
+    requires few_entries { length interned.now.entries ≤ generation_limit }
+    ensures report { IfOk result (λ report. report.items ≡ counts_of interned.now) }
+    ensures memory { IfErr result (λ error. error ≡ AllocationError.Memory) }
+{
+    let (numbers, entries) = (interned.numbers(), interned.entries());
+    let ranks = ranks(alloc, entries, numbers)?;
+    let mut report = Vec::new(alloc);
+    push_count(&mut report, b"tables ", numbers.len() as u64)?;
+    push_count(&mut report, b"distinct ", entries.len() as u64)?;
+    push_count(&mut report, b"ranksum ", sum_of(&ranks))?;
+    Ok(report)
+}
+
+// The sum of all ranks.
+fn sum_of(ranks: &[u64]) -> u64
+    requires { sum ranks.now < 2 ^ 64 }
+    ensures { result ≡ sum ranks.now }
+{
+    ranks.iter().sum()
+}
+
+// A line with a name and a count.
+fn push_count(report: &mut Vec<u8>, name: &[u8], count: u64) -> Result<(), AllocationError>
+    ensures line { OnOk result (report.new.items ≡ report.old.items ++ ended ((name.now ++ decimal count) ∷ [])) }
+    ensures memory { IfErr result (λ error. error ≡ AllocationError.Memory) }
+{
+    report.extend_from_slice(name)?;
+    push_number(report, count)?;
+    report.push(b'\n')?;
+    Ok(())
 }
 
 // A line for each rank, and then one for each table, in increasing order.

@@ -220,16 +220,21 @@ fn ends_at_a_read<H: Threads + Wait + Sync>(rt: &H, alloc: Global) -> Result<boo
     )
 }
 
-// Whether a run ends at a write into a sink that has room for three bytes.
-fn ends_at_a_write<H: Threads + Wait + Sync>(rt: &H, alloc: Global) -> Result<bool, &'static str> {
+// Whether a run of two distinct tables ends at a write into a sink that has room for three bytes, which took these.
+fn ends_at_a_write<H: Threads + Wait + Sync>(
+    rt: &H,
+    alloc: Global,
+    command: &[&str],
+    taken: &str,
+) -> Result<bool, &'static str> {
     let mut source = source_of(alloc, "1 2\n3\n1 2\n")?;
     let mut out = MemorySink::new(alloc, 3, 3, Vec::new(alloc)).map_err(|_| "memory")?;
     let mut log = MemorySink::new(alloc, 100, 7, Vec::new(alloc)).map_err(|_| "memory")?;
-    let ended = run_over(rt, alloc, &["ranks", "2"], &mut source, &mut out, &mut log)?;
+    let ended = run_over(rt, alloc, command, &mut source, &mut out, &mut log)?;
     Ok(
         ended.status == Status::WriteFault
             && ended.seen == 2
-            && out.taken() == "0\n1".as_bytes()
+            && out.taken() == taken.as_bytes()
             && log.taken() == "write fault\n".as_bytes(),
     )
 }
@@ -238,7 +243,8 @@ fn ends_at_a_write<H: Threads + Wait + Sync>(rt: &H, alloc: Global) -> Result<bo
 fn device_faults_and_usage(rt: HostRuntime) -> Result<(), Fail> {
     let alloc = rt.alloc();
     assert!(rt; ends_at_a_read(&rt, alloc)?);
-    assert!(rt; ends_at_a_write(&rt, alloc)?);
+    assert!(rt; ends_at_a_write(&rt, alloc, &["ranks", "2"], "0\n1")?);
+    assert!(rt; ends_at_a_write(&rt, alloc, &["gen", "3", "2", "2"], "tab")?);
     let refusal = Wanted::refusal(Status::Usage, USAGE);
     assert!(rt; leaves(&rt, alloc, &["ranks", "0"], "1\n", refusal)?);
     assert!(rt; leaves(&rt, alloc, &["ranks", "65"], "1\n", refusal)?);
@@ -247,6 +253,48 @@ fn device_faults_and_usage(rt: HostRuntime) -> Result<(), Fail> {
     assert!(rt; leaves(&rt, alloc, &["numbers", "1", "1"], "1\n", refusal)?);
     assert!(rt; leaves(&rt, alloc, &["gen", "1", "7", "1"], "1\n", refusal)?);
     assert!(rt; leaves(&rt, alloc, &["--help"], "1\n", refusal)?);
+    Ok(())
+}
+
+// A number of tables, a divisor or a number of workers out of its range, and no digits.
+#[test]
+fn generation_out_of_range(rt: HostRuntime) -> Result<(), Fail> {
+    let refusal = Wanted::refusal(Status::Usage, USAGE);
+    for [tables, divisor, workers] in [
+        ["0", "1", "1"],
+        ["1000001", "1", "1"],
+        ["1", "0", "1"],
+        ["1", "1000001", "1"],
+        ["1", "999999", "1"],
+        ["1", "1", "0"],
+        ["1", "1", "65"],
+        ["1", "", "1"],
+    ] {
+        let words = ["gen", tables, divisor, workers];
+        assert!(rt; leaves(&rt, rt.alloc(), &words, "1\n", refusal)?);
+    }
+    Ok(())
+}
+
+#[test]
+fn generated_report(rt: HostRuntime) -> Result<(), Fail> {
+    let few = Wanted::report("tables 3\ndistinct 2\nranksum 1\n", 2);
+    assert!(rt; leaves(&rt, rt.alloc(), &["gen", "3", "2", "1"], "1\n", few)?);
+    assert!(rt; leaves(&rt, rt.alloc(), &["gen", "0003", "02", "08"], "1\n", few)?);
+    Ok(())
+}
+
+// Each of the 50,000 distinct tables makes a version, which copies one path alone.
+#[test]
+fn generated_report_of_many_tables(rt: HostRuntime) -> Result<(), Fail> {
+    let many = Wanted::report(
+        "tables 200000\ndistinct 50000\nranksum 4999900000\n",
+        50_000,
+    );
+    for workers in ["1", "8"] {
+        let words = ["gen", "200000", "50000", workers];
+        assert!(rt; leaves(&rt, rt.alloc(), &words, "1\n", many)?);
+    }
     Ok(())
 }
 

@@ -1,5 +1,6 @@
 //! The program `stabby_intern`: `ranks W` and `numbers W` read tables from standard input, and write each table's rank or
-//! number, and the distinct tables, to standard output. A line on standard error tells of a run that didn't end well.
+//! number, and the distinct tables, to standard output; `gen N D W` writes the counts of generated tables. A line on
+//! standard error tells of a run that didn't end well.
 #![tactic(auto)]
 
 use stabby_intern::{StderrSink, StdinSource, StdoutSink, run};

@@ -27,7 +27,7 @@ make_report-requires-clause-distinct g c =
 
 pub returns-clause-ok : goal.returns-clause-ok
 returns-clause-ok g c =
-    reported c.args.command.task c.args.text.now c.args.command.workers c.in_ok-tables.tables.items (front_of c.args.pass.now) (front_of c.intern_all.new.pass)
+    reported c.args.asked.task c.args.text.now c.args.asked.workers c.in_ok-tables.tables.items (front_of c.args.pass.now) (front_of c.intern_all.new.pass)
     c.in_ok-interned.interned c.in_ok-make_report.field-0.items
     c.in_ok-tables.ensures.tables c.requires.empty
     (rw c.deref.ensures.value at c.in_ok-interned.ensures.front)
