@@ -1,5 +1,5 @@
 -- What the edits of two passes say of a shared set of numbers.
-use Rattle.std.proofs.Common.{◌≡◌, ℕ, zero, suc, ◌+◌, ◌-◌, ◌^◌, min, ◌<◌, ◌≤◌, List, [], ◌∷◌, ◌++◌, length, take, Option, Some, None, IsSome, Result, Ok, Err, OnErr, IfOk, if◌then◌else◌, false, true, sym, refl, ap, ◌∙◌, subst, arith, length-append}
+use Rattle.std.proofs.Common.{◌≡◌, ℕ, zero, suc, ◌+◌, ◌-◌, ◌^◌, min, ◌<◌, ◌≤◌, List, [], ◌∷◌, ◌++◌, length, take, Option, Some, None, IsSome, Result, Ok, Err, OnErr, IfOk, if◌then◌else◌, false, sym, refl, ap, ◌∙◌, subst, arith, length-append}
 use mathlib.Core.List.{IsPrefix}
 use Rattle.std.specs.Borrow.{Bor}
 use Rattle.std.specs.Fn.{Mut, CalledAt}
@@ -22,7 +22,6 @@ use Rattle.stabby_cell.specs.Passes.{front_of, first_stamp_of, stamp_of, weight_
 use Rattle.stabby_cell.specs.Values.{last_of}
 use Rattle.stabby_cell.specs.Replaced.{contents_of, first_contents_of}
 use Rattle.stabby_cell.specs.Edits.{Answer, EditCall, Outrun, Ran, Answered, CommitsEdit, Edits}
-use Rattle.stabby_cell.proofs.VisitLemmas.{prefix_length}
 use Rattle.stabby_cell_uses.specs.Fills.{number_in, size_of, AddsOne, WithNumber, AddsAt, EachAddsOne, CommitsNumber, AddsNumber, AddedOnly}
 use Rattle.stabby_cell_uses.proofs.CommitLemmas.{get_prefix, take_prefix, get_last, take_last, each_looked, each_committed, each_entry}
 
