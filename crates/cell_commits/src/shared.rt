@@ -5,6 +5,7 @@ ghost use Rattle.stabby_cell.specs.Passes.{weight_of};
 ghost use Rattle.stabby_cell.specs.Shared.{IsPassOf};
 
 use stabby_cell::{ArcPass, AtomicArc};
+use stabby_cell_uses::store_number;
 use std::alloc::Global;
 use std::sync::{Arc, Wait};
 use std::thread::{Threads, join};
@@ -31,22 +32,6 @@ fn load_many<H: Wait>(
     pass
 }
 
-fn store_one<H: Wait>(
-    rt: &H,
-    alloc: Global,
-    cell: &AtomicArc<u64>,
-    pass: &mut ArcPass<u64>,
-    number: u64,
-)
-    requires { IsPassOf cell.now pass.old }
-    ensures pass { IsPassOf cell.now pass.new }
-{
-    let Ok(value) = Arc::new(alloc, number) else {
-        return;
-    };
-    let _ = cell.store(rt, pass, Some(value));
-}
-
 fn store_many<H: Wait>(
     rt: &H,
     alloc: Global,
@@ -58,7 +43,7 @@ fn store_many<H: Wait>(
     ensures { IsPassOf cell.now result }
 {
     for number in 0..count {
-        store_one(rt, alloc, cell, &mut pass, number);
+        let _ = store_number(rt, alloc, cell, &mut pass, number);
     }
     pass
 }

@@ -1,3 +1,5 @@
 pub mod Counting
 pub mod Cells
+pub mod Commits
 pub mod Stores
+pub mod Fills

@@ -4,35 +4,35 @@ ghost use mathlib.Core.List.{IsPrefix};
 ghost use Rattle.std.specs.Thread.{IsSync};
 ghost use Rattle.stabby_cell.specs.Passes.{IsWhole, front_of, commits_of, weight_of};
 ghost use Rattle.stabby_cell.specs.Shared.{IsPassOf};
-ghost use Rattle.stabby_cell_uses.specs.Stores.{StoredOnly, HoldsOnly};
+ghost use Rattle.stabby_cell_uses.specs.Stores.{StoresNumber, StoredOnly, HoldsOnly};
 
 use stabby_cell::{ArcPass, AtomicArc};
 use std::alloc::Global;
 use std::sync::{Arc, Wait};
 use std::thread::{Threads, join};
 
-// Stores the number where there is memory for a handle of it.
-fn store_number<H: Wait>(
+/// Stores the number, and answers its stamp. `None` where there is no memory for a handle of it, or no further stamp.
+pub fn store_number<H: Wait>(
     rt: &H,
     alloc: Global,
     cell: &AtomicArc<u64>,
     pass: &mut ArcPass<u64>,
     number: u64,
-)
-    requires own { IsPassOf cell.now pass.old }
-    requires stored { StoredOnly number pass.old }
+) -> Option<u64>
+    requires { IsPassOf cell.now pass.old }
     ensures pass { IsPassOf cell.now pass.new }
-    ensures stored { StoredOnly number pass.new }
-    ensures weight { weight_of pass.new ≡ weight_of pass.old }
-    ensures front { IsPrefix (front_of pass.old) (front_of pass.new) }
+    ensures stored { StoresNumber pass.old pass.new number result }
 {
     let Ok(handle) = Arc::new(alloc, number) else {
-        return;
+        return None;
     };
-    let _ = cell.store(rt, pass, Some(handle));
+    match cell.store(rt, pass, Some(handle)) {
+        Ok(stamp) => Some(stamp),
+        Err(_) => None,
+    }
 }
 
-// Stores the number, and reads it again by its stamp.
+// Stores the number, and reads the value now by its stamp.
 fn store_one<H: Wait>(
     rt: &H,
     alloc: Global,
@@ -47,7 +47,7 @@ fn store_one<H: Wait>(
     ensures weight { weight_of pass.new ≡ weight_of pass.old }
     ensures front { IsPrefix (front_of pass.old) (front_of pass.new) }
 {
-    store_number(rt, alloc, cell, pass, number);
+    let _ = store_number(rt, alloc, cell, pass, number);
     let stamp = pass.seen();
     let _ = cell.load_at(rt, pass, stamp);
 }

@@ -4,10 +4,10 @@ ghost use Rattle.std.specs.Thread.{IsSync};
 ghost use Rattle.stabby_cell.specs.Passes.{weight_of};
 ghost use Rattle.stabby_cell.specs.Shared.{IsPassOf};
 
-use crate::store_in_two_threads;
+use crate::{store_in_two_threads, store_number};
 use stabby_cell::{ArcPass, AtomicArc, Kept};
 use std::alloc::Global;
-use std::sync::{Arc, Wait};
+use std::sync::Wait;
 use std::test::Fail;
 use std::thread::{Threads, join};
 
@@ -19,15 +19,25 @@ struct Store {
 }
 
 /// Whether that is the answer for the store where the newest stamp is `now`.
-fn is_answer(answer: Kept<u64>, store: Store, now: u64) -> bool {
+fn is_answer(answer: &Kept<u64>, store: Store, now: u64) -> bool {
     let oldest = now.saturating_add(1).saturating_sub(16);
     match answer {
         Kept::Version(None) => false,
-        Kept::Version(Some(value)) => oldest <= store.stamp && *value == store.number,
+        Kept::Version(Some(value)) => oldest <= store.stamp && **value == store.number,
         Kept::NotKept {
             oldest: least,
             stamp,
-        } => store.stamp < oldest && least == oldest && stamp == now,
+        } => store.stamp < oldest && *least == oldest && *stamp == now,
+    }
+}
+
+fn answers<H: Wait>(rt: &H, cell: &AtomicArc<u64>, pass: &mut ArcPass<u64>, store: Store) -> bool
+    requires { IsPassOf cell.now pass.old }
+    ensures { IsPassOf cell.now pass.new }
+{
+    match cell.load_at(rt, pass, store.stamp) {
+        Err(_) => false,
+        Ok(answer) => is_answer(&answer, store, pass.seen()),
     }
 }
 
@@ -42,34 +52,29 @@ fn each_answers<H: Wait>(
 {
     let mut all = true;
     for store in stores {
-        match cell.load_at(rt, pass, store.stamp) {
-            Err(_) => all = false,
-            Ok(answer) => all &= is_answer(answer, *store, pass.seen()),
-        }
+        all &= answers(rt, cell, pass, *store);
     }
     all
 }
 
-fn store_number<H: Wait>(
+fn store_and_read_back<H: Wait>(
     rt: &H,
     alloc: Global,
     cell: &AtomicArc<u64>,
     pass: &mut ArcPass<u64>,
+    stores: &mut Vec<Store>,
     number: u64,
-) -> Option<Store>
+) -> bool
     requires { IsPassOf cell.now pass.old }
     ensures { IsPassOf cell.now pass.new }
 {
-    let Ok(value) = Arc::new(alloc, number) else {
-        return None;
+    let Some(stamp) = store_number(rt, alloc, cell, pass, number) else {
+        return false;
     };
-    match cell.store(rt, pass, Some(value)) {
-        Ok(stamp) => Some(Store { stamp, number }),
-        Err(_) => None,
-    }
+    stores.push(Store { stamp, number }).is_ok() && each_answers(rt, cell, pass, stores.as_slice())
 }
 
-fn store_and_read_back<H: Wait>(
+fn store_and_read_many<H: Wait>(
     rt: &H,
     alloc: Global,
     cell: &AtomicArc<u64>,
@@ -82,11 +87,8 @@ fn store_and_read_back<H: Wait>(
     let mut stores = Vec::new(alloc);
     let mut all = true;
     for round in 0..50u64 {
-        let Some(one) = store_number(rt, alloc, cell, &mut pass, first.wrapping_add(round)) else {
-            return (pass, false);
-        };
-        all &= stores.push(one).is_ok();
-        all &= each_answers(rt, cell, &mut pass, stores.as_slice());
+        let number = first.wrapping_add(round);
+        all &= store_and_read_back(rt, alloc, cell, &mut pass, &mut stores, number);
     }
     (pass, all)
 }
@@ -106,11 +108,11 @@ fn read_back_in_two_threads<H: Threads + Wait + Sync>(
         || -> (ArcPass<u64>, bool)
             requires { IsSync H.row × IsPassOf cell.now pass }
             ensures { IsPassOf cell.entry.now result.0 }
-        { store_and_read_back(rt, alloc, cell, pass, 0) },
+        { store_and_read_many(rt, alloc, cell, pass, 0) },
         || -> (ArcPass<u64>, bool)
             requires { IsSync H.row × IsPassOf cell.now other }
             ensures { IsPassOf cell.entry.now result.0 }
-        { store_and_read_back(rt, alloc, cell, other, 1_000) },
+        { store_and_read_many(rt, alloc, cell, other, 1_000) },
     );
     let (mut whole, all) = first;
     let (part, others) = second;
