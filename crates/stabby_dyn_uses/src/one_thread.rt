@@ -119,8 +119,8 @@ pub fn put_convert_and_read(
         Err(back) => return Err(back),
     };
     let mut erased = Dyn::from_ptr(boxed, table);
-    if let Some(place) = erased.stable_downcast_mut::<u64, T<H>>() {
-        *place = number;
+    if let Some(held) = erased.stable_downcast_mut::<u64, T<H>>() {
+        *held = number;
     }
     let sendable: Dyn<Box<Slot, Global>, VtSend<VTable<AnyVt>>> = erased.into_super();
     let plain: Dyn<Box<Slot, Global>, VTable<AnyVt>> = sendable.into_super();
