@@ -4,8 +4,9 @@ use crate::{
     put_where_alone, share,
 };
 use stabby_count::Arc;
-use stabby_dyn::{Dyn, DynRef, H};
+use stabby_dyn::{Dyn, DynRef, H, VtDrop};
 use stabby_layout::Described;
+use stabby_text::Box;
 use std::test::Fail;
 
 fn shared_number(rt: &HostRuntime, number: u64) -> Result<Dyn<Arc<Slot>, Marked>, Fail> {
@@ -108,5 +109,17 @@ fn bytes_and_boxes(rt: HostRuntime) -> Result<(), Fail> {
         return Err("memory")?;
     };
     assert_eq!(rt; read, Some(6));
+    Ok(())
+}
+
+#[test]
+fn box_lends_its_slot(rt: HostRuntime) -> Result<(), Fail> {
+    let slot = Slot::of_number(rt.alloc(), 5).map_err(|_| "memory")?;
+    let Ok(boxed) = Box::new_in(rt.alloc(), slot) else {
+        return Err("memory")?;
+    };
+    let mut erased = Dyn::from_ptr(boxed, VtDrop { word: 3 });
+    let lent = erased.as_mut();
+    assert!(rt; matches!(lent.ptr().content, Content::Number(5)));
     Ok(())
 }
