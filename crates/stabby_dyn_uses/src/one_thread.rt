@@ -5,11 +5,11 @@ ghost use Rattle.stabby_count.specs.Records.{ReadsAlone};
 ghost use Rattle.stabby_layout.specs.declared.error.AllocationError.TheVariants.{Memory};
 ghost use Rattle.stabby_dyn_uses.specs.Slots.{IsNumber, TellsByte, TellsNumber, slot_with_number};
 
-use crate::slot::Slot;
+use crate::slot::{Content, Slot};
 use stabby_count::Arc;
 use stabby_dyn::{
-    AnyVt, Dyn, H, HasDropVt, IPtr, IPtrOwned, IPtrTryAsMut, IterVt, Member, T, TransitiveDeref,
-    VTable, VtDrop, VtSend, VtSync,
+    AnyVt, Dyn, H, HasDropVt, IPtr, IPtrOwned, IPtrTryAsMut, IterVt, T, TransitiveDeref, VTable,
+    VtDrop, VtSend, VtSync,
 };
 use stabby_layout::AllocationError;
 use stabby_text::Box;
@@ -69,7 +69,7 @@ pub fn share(alloc: Global, slot: Slot) -> Result<Dyn<Arc<Slot>, Marked>, (Slot,
 fn put_in(slot: &mut Slot, number: u64)
     ensures { slot.new ≡ slot_with_number slot.old number }
 {
-    if let Some(place) = <u64 as Member<Slot>>::pick_mut(slot) {
+    if let Content::Number(place) = &mut slot.content {
         *place = number;
     }
 }
