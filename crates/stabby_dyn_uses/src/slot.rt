@@ -26,7 +26,8 @@ pub struct Slot {
 impl Slot {
     /// A byte with the report of `u8`, or `Memory`.
     pub fn of_byte(alloc: Global, byte: u8) -> Result<Slot, AllocationError>
-        ensures ok { IfOk result (λ slot. slot ≡ record { report = without_fields (codes "u8"); content = Byte byte }) }
+        ensures ok { IfOk result (λ slot.
+            slot ≡ record { report = without_fields (codes "u8"); content = Byte byte }) }
         ensures memory { IfErr result (λ error. error ≡ Memory) }
     {
         let report = <u8 as Described>::report(alloc)?;
