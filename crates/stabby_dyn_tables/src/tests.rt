@@ -1,9 +1,13 @@
 //! Tables at concrete types: their entries by paths, their constructors, their words and their numbers.
+ghost use Rattle.stabby_registry.specs.Passes.{IsPassOf};
+
 use crate::{
     AnyVt, H, HasDropVt, HasSendVt, HasSyncVt, IConstConstructor, IterVt, T, TransitiveDeref,
     VTable, VtDrop, VtSend, VtSync,
 };
-use stabby_registry::ListsWords;
+use stabby_registry::{ListsWords, TreePass, VTableRegistry, VtBtree};
+use std::alloc::Global;
+use std::sync::Wait;
 use std::test::Fail;
 
 type Nested = VtSync<VTable<IterVt, VtSend<VTable<AnyVt>>>>;
@@ -69,5 +73,58 @@ fn each_growing_call_succeeds(rt: HostRuntime) -> Result<(), Fail> {
         return Err("memory")?;
     };
     assert_eq!(rt; words.words(), &[3u64, 9, 2][..]);
+    Ok(())
+}
+
+// The number that the registry gives the table.
+fn number_of<Vt: ListsWords, R: Wait>(
+    rt: &R,
+    alloc: Global,
+    registry: &VtBtree<5>,
+    pass: &mut TreePass<5>,
+    table: &Vt,
+) -> Result<u64, Fail>
+    requires { IsPassOf registry.now pass.old }
+    ensures { IsPassOf registry.now pass.new }
+{
+    match registry.insert_typed(rt, alloc, pass, table) {
+        Ok(number) => Ok(number),
+        Err(_) => Err("memory")?,
+    }
+}
+
+// Whether the registry's table of this number is `[3, 9]`.
+fn is_three_nine<R: Wait>(
+    rt: &R,
+    registry: &VtBtree<5>,
+    pass: &mut TreePass<5>,
+    number: u64,
+) -> Result<bool, Fail>
+    requires { IsPassOf registry.now pass.old }
+    ensures { IsPassOf registry.now pass.new }
+{
+    match registry.entry(rt, pass, number) {
+        Ok(Some(table)) => Ok(table.words() == &[3u64, 9][..]),
+        Ok(None) => Ok(false),
+        Err(_) => Err("memory")?,
+    }
+}
+
+// The numbers of the words 5, 3 and 4, and then of the table with 3 below 9.
+#[test]
+fn registry_calls(rt: HostRuntime) -> Result<(), Fail> {
+    let alloc = rt.alloc();
+    let Ok((registry, mut pass)) = VtBtree::<5>::new(alloc) else {
+        return Err("memory")?;
+    };
+    number_of(&rt, alloc, &registry, &mut pass, &VtDrop { word: 5 })?;
+    number_of(&rt, alloc, &registry, &mut pass, &VtDrop { word: 3 })?;
+    number_of(&rt, alloc, &registry, &mut pass, &VtDrop { word: 4 })?;
+    let table: VTable<AnyVt> = VTable {
+        tail: VtDrop { word: 3 },
+        head: AnyVt { word: 9 },
+    };
+    assert_eq!(rt; number_of(&rt, alloc, &registry, &mut pass, &table)?, 3);
+    assert!(rt; is_three_nine(&rt, &registry, &mut pass, 3)?);
     Ok(())
 }
