@@ -71,21 +71,48 @@ def message(schema, value):
     return head(schema) + body(schema, value)
 
 
+def reader(schema):
+    """What a reader under the schema answers, as a function of the bytes."""
+    front, mask = head(schema), is_padding(schema)
+    whole = len(front) + len(mask)
+
+    def outcome(data):
+        for at, (want, got) in enumerate(zip(front, data)):
+            if want != got:
+                return "differs", at
+        if len(data) < whole:
+            return "truncated", len(data)
+        for at, pad in enumerate(mask):
+            if pad and data[len(front) + at]:
+                return "padding", len(front) + at
+        if len(data) > whole:
+            return "trailing", whole
+        return "ok", len(data)
+
+    return outcome
+
+
 def outcome(schema, data):
-    """What a reader under the schema answers."""
-    front = head(schema)
-    for at, (want, got) in enumerate(zip(front, data)):
-        if want != got:
-            return "differs", at
-    whole = len(front) + size(schema)
-    if len(data) < whole:
-        return "truncated", len(data)
-    for at, pad in enumerate(is_padding(schema)):
-        if pad and data[len(front) + at]:
-            return "padding", len(front) + at
-    if len(data) > whole:
-        return "trailing", whole
-    return "ok", len(data)
+    return reader(schema)(data)
+
+
+def places(kind):
+    return 1 if isinstance(kind, int) else 1 + sum(places(k) for _, k in kind[2])
+
+
+def misfit(kind, value, at=0):
+    """The first place, in preorder, whose value doesn't fit; the whole is place 0. None where the value fits."""
+    if isinstance(kind, int):
+        return None if isinstance(value, int) and value < 256 ** kind else at
+    if isinstance(value, int) or len(value) != len(kind[2]):
+        return at
+    at += 1
+    for (_, k), v in zip(kind[2], value):
+        found = misfit(k, v, at)
+        if found is not None:
+            return found
+        at += places(k)
+    return None
 
 
 def described(data):

@@ -21,3 +21,20 @@ def random_value(rng, schema):
         else:
             out.append(random_value(rng, kind))
     return out
+
+
+def changed_schema(rng, schema):
+    """The schema with one field of it, at any depth, changed, left out or put twice."""
+    name, ident, fields = schema
+    fields = list(fields)
+    at = rng.randrange(len(fields))
+    field, kind = fields[at]
+    if not isinstance(kind, int) and rng.random() < 0.7:
+        fields[at] = field, changed_schema(rng, kind)
+    elif rng.random() < 0.6:
+        fields[at] = field, rng.choice([1, 2, 4, 8])
+    elif len(fields) > 1 and rng.random() < 0.5:
+        del fields[at]
+    else:
+        fields.insert(at, (field, kind))
+    return name, ident, fields
