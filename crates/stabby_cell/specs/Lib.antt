@@ -4,6 +4,7 @@ pub mod Recording
 pub mod Inside
 pub mod Passes
 pub mod Turns
+pub mod Taking
 pub mod Laws
 pub mod Values
 pub mod Reads

@@ -66,6 +66,10 @@ module _ {X : Type 0} where
       (seen : ℕ) × (ended : ℕ) × (seen ≢ alone) × (0 < strong_of ended) × is_clone (arc_value before) x
       × (arc_record after ≡ note Look alone ∷ [])
 
+  -- y is x, or what a clone of x may be
+  abbrev pub IsOrClones : (X → X → Type 0) → X → X → Type 0
+  IsOrClones is_clone x y = (y ≡ x) ⊎ is_clone x y
+
   -- how a handle became the only one, with the value x
   abbrev pub PartsWays : (X → X → Type 0) → Arc X → Arc X → X → Type 0
   PartsWays is_clone before after x = StaysAlone before after x ⊎ BeginsAnew is_clone before after x

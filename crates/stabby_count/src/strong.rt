@@ -506,9 +506,9 @@ impl<T> Arc<T> {
 
 impl<T: Clone + Drop> Arc<T> {
     ghost use Rattle.std.specs.Borrow.{sem};
-    ghost use Rattle.std.specs.Prelude.{◌≡◌, ◌⊎◌, ◌↔◌, IfOk, IfErr, IfSome, IfNone, IsOk, OnErr, OnOk, is_some, true};
+    ghost use Rattle.std.specs.Prelude.{◌≡◌, ◌↔◌, IfOk, IfErr, IfSome, IfNone, IsOk, OnErr, OnOk, is_some, true};
     ghost use Rattle.stabby_count.specs.Loans.{own_lends_ok, arc_lends_alone};
-    ghost use Rattle.stabby_count.specs.Shared.{arc_value, IsSole, IsSameArc, StaysAlone, PartsWays, EndsAfterLook, FindsOthers};
+    ghost use Rattle.stabby_count.specs.Shared.{arc_value, IsSole, IsSameArc, IsOrClones, StaysAlone, PartsWays, EndsAfterLook, FindsOthers};
     ghost use Rattle.stabby_layout.specs.declared.error.AllocationError.TheVariants.{Memory};
 
     fn lend_owned(&mut self) -> Result<&mut T, AllocationError>
@@ -527,7 +527,7 @@ impl<T: Clone + Drop> Arc<T> {
     fn part_ways(&mut self, alloc: Global) -> Result<Option<Result<T, Spent>>, AllocationError>
         ensures own { OnOk result (is_some self.new.own ≡ true) }
         ensures sole { OnOk result (IsSole self.new) }
-        ensures value { OnOk result ((arc_value self.new ≡ arc_value self.old) ⊎ T.is_clone (arc_value self.old) (arc_value self.new)) }
+        ensures value { OnOk result (IsOrClones T.is_clone (arc_value self.old) (arc_value self.new)) }
         ensures parted { OnOk result (PartsWays T.is_clone self.old self.new (arc_value self.new)) }
         ensures stayed { IfOk result (λ ended. IfNone ended (StaysAlone self.old self.new (arc_value self.new))) }
         ensures ended { IfOk result (λ ended. IfSome ended (EndsAfterLook self.old)) }
@@ -561,7 +561,7 @@ impl<T: Clone + Drop> Arc<T> {
     /// were.
     pub fn make_mut(&mut self, alloc: Global) -> Result<&mut T, AllocationError>
         ensures* writes_back { sem 𝓛 (arc_lends_alone T.row self.entry T.is_clone result) }
-        ensures value { IfOk result (λ r. (r.now ≡ arc_value self.old) ⊎ T.is_clone (arc_value self.old) r.now) }
+        ensures value { IfOk result (λ r. IsOrClones T.is_clone (arc_value self.old) r.now) }
         ensures sole { IsSole self.old → IfOk result (λ r. r.now ≡ arc_value self.old) }
         ensures sole_succeeds { IsSole self.old → IsOk result }
         ensures memory { IfErr result (λ error. error ≡ Memory) }

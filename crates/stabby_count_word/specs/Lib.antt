@@ -1,3 +1,4 @@
 pub mod Kinds
 pub mod Rights
 pub mod RawBoxes
+pub mod Steps

@@ -1,9 +1,8 @@
 //! The counted word and its steps.
 ghost use Rattle.std.specs.Prelude.{◌≡◌, ◌≢◌, ℕ, ◌+◌, ◌-◌, ◌%◌, ◌^◌, ◌<◌, ◌==◌, List, [], ◌∷◌};
-ghost use prog.Atomic.{either};
-ghost use Rattle.atomic_table.specs.Marked.{Keeps};
 ghost use Rattle.stabby_count_word.specs.Kinds.{nothing, one_strong, two_strong, last, seized, returning, one_weak, strong_and_weak, two_weak};
-ghost use Rattle.stabby_count_word.specs.Rights.{WordNames, word_names_coded, strong_half, weak_half, counted_owns, counted_shares, Cuts};
+ghost use Rattle.stabby_count_word.specs.Rights.{WordNames, word_names_coded, strong_half, weak_half, counted_owns, counted_shares};
+ghost use Rattle.stabby_count_word.specs.Steps.{CutInto, IsOf, KindBy, MayCut, MayStep, Opens, SameValue, Stepped, exchanged, less_by};
 
 use crate::permission::Permission;
 use crate::raw_box::RawBox;
@@ -44,7 +43,7 @@ impl<T, W, P: CountRule<W>> CountWord<T, W, P> {
     pub fn new(value: RawBox<T, Global>) -> (CountWord<T, W, P>, Seat<W>, Permission<T>)
         requires { P.holds 4294967297 (P.first ∷ []) }
         ensures seat { (result.1.views ≡ result.0.views) × (result.1.view ≡ P.first) }
-        ensures permission { (result.2.word_names ≡ result.0) × (result.2.kind ≡ one_strong) × (result.2.value ≡ value.value) }
+        ensures permission { Opens result.0 value.value result.2 }
     {
         let RawBox { at, alloc: _ } = value;
         (
@@ -61,16 +60,16 @@ impl<T, W, P: CountRule<W>> CountWord<T, W, P> {
 
     /// A load.
     pub fn look<M: CountStep<W>>(&self, seat: &mut Seat<W>) -> u64
-        requires { (seat.old.views ≡ self.now.views) × Keeps P.holds seat.old.id seat.old.view (λ n. n) (M.then 0 0 seat.old.view) }
-        ensures { (seat.new.views ≡ seat.old.views) × (seat.new.id ≡ seat.old.id) × M.then 0 0 seat.old.view result seat.new.view }
+        requires { MayStep P.holds self.now seat.old (λ n. n) (M.then 0 0 seat.old.view) }
+        ensures { Stepped (M.then 0 0 seat.old.view) seat.old result seat.new }
     {
         unsafe { raw::load::<Brand>(&raw const self.word, SeqCst) }
     }
 
     /// A load at which the view is cut in two, for a new seat.
     pub fn split_seat<M: CountSplit<W>>(&self, seat: &mut Seat<W>) -> Seat<W>
-        requires { (seat.old.views ≡ self.now.views) × Cuts P.holds seat.old.id seat.old.view (M.left seat.old.view) (M.right seat.old.view) }
-        ensures { (seat.new.views ≡ seat.old.views) × (seat.new.id ≡ seat.old.id) × (seat.new.view ≡ M.left seat.old.view) × (result.views ≡ seat.old.views) × (result.view ≡ M.right seat.old.view) }
+        requires { MayCut P.holds self.now seat.old (M.left seat.old.view) (M.right seat.old.view) }
+        ensures { CutInto (M.left seat.old.view) (M.right seat.old.view) seat.old seat.new result }
     {
         unsafe { raw::load::<Brand>(&raw const self.word, SeqCst) };
         Seat {
@@ -87,16 +86,17 @@ impl<T, W, P: CountRule<W>> CountWord<T, W, P> {
         new: u64,
     ) -> u64
         requires count { (0 < strong_half old) × (strong_half old < 4294967295) × (new ≡ old + 4294967296) }
-        requires seat { (seat.old.views ≡ self.now.views) × Keeps P.holds seat.old.id seat.old.view (λ n. either (n == old) new n) (M.then old new seat.old.view) }
-        requires permission { (permission.old.kind ≡ one_strong) × (permission.old.word_names ≡ self.now) }
-        ensures seat { (seat.new.views ≡ seat.old.views) × (seat.new.id ≡ seat.old.id) × M.then old new seat.old.view result seat.new.view }
-        ensures permission { (permission.new.ptr ≡ permission.old.ptr) × (permission.new.word_names ≡ permission.old.word_names) × (permission.new.round ≡ permission.old.round) × (permission.new.value ≡ permission.old.value) }
-        ensures kind { (result ≡ old → permission.new.kind ≡ two_strong) × (result ≢ old → permission.new.kind ≡ one_strong) }
+        requires seat { MayStep P.holds self.now seat.old (exchanged old new) (M.then old new seat.old.view) }
+        requires permission { IsOf self.now one_strong permission.old }
+        ensures seat { Stepped (M.then old new seat.old.view) seat.old result seat.new }
+        ensures permission { SameValue permission.old permission.new }
+        ensures kind { KindBy result old two_strong one_strong permission.new.kind }
     {
         unsafe { exchange::<Brand>(&raw const self.word, old, new) }
     }
 
-    /// Where the word is `old`, which has a strong share, a weak share gets a strong one beside it, with the same value.
+    /// Where the word is `old`, which has a strong share, a weak share gets a strong one beside it.
+    /// Both are of the same value.
     pub fn upgrade<M: CountStep<W>>(
         &self,
         seat: &mut Seat<W>,
@@ -105,11 +105,11 @@ impl<T, W, P: CountRule<W>> CountWord<T, W, P> {
         new: u64,
     ) -> u64
         requires count { (0 < strong_half old) × (strong_half old < 4294967295) × (new ≡ old + 4294967296) }
-        requires seat { (seat.old.views ≡ self.now.views) × Keeps P.holds seat.old.id seat.old.view (λ n. either (n == old) new n) (M.then old new seat.old.view) }
-        requires permission { (permission.old.kind ≡ one_weak) × (permission.old.word_names ≡ self.now) }
-        ensures seat { (seat.new.views ≡ seat.old.views) × (seat.new.id ≡ seat.old.id) × M.then old new seat.old.view result seat.new.view }
-        ensures permission { (permission.new.ptr ≡ permission.old.ptr) × (permission.new.word_names ≡ permission.old.word_names) × (permission.new.round ≡ permission.old.round) × (permission.new.value ≡ permission.old.value) }
-        ensures kind { (result ≡ old → permission.new.kind ≡ strong_and_weak) × (result ≢ old → permission.new.kind ≡ one_weak) }
+        requires seat { MayStep P.holds self.now seat.old (exchanged old new) (M.then old new seat.old.view) }
+        requires permission { IsOf self.now one_weak permission.old }
+        ensures seat { Stepped (M.then old new seat.old.view) seat.old result seat.new }
+        ensures permission { SameValue permission.old permission.new }
+        ensures kind { KindBy result old strong_and_weak one_weak permission.new.kind }
     {
         unsafe { exchange::<Brand>(&raw const self.word, old, new) }
     }
@@ -123,11 +123,11 @@ impl<T, W, P: CountRule<W>> CountWord<T, W, P> {
         new: u64,
     ) -> u64
         requires count { (weak_half old < 4294967295) × (new ≡ old + 1) }
-        requires seat { (seat.old.views ≡ self.now.views) × Keeps P.holds seat.old.id seat.old.view (λ n. either (n == old) new n) (M.then old new seat.old.view) }
-        requires permission { (permission.old.kind ≡ one_strong) × (permission.old.word_names ≡ self.now) }
-        ensures seat { (seat.new.views ≡ seat.old.views) × (seat.new.id ≡ seat.old.id) × M.then old new seat.old.view result seat.new.view }
-        ensures permission { (permission.new.ptr ≡ permission.old.ptr) × (permission.new.word_names ≡ permission.old.word_names) × (permission.new.round ≡ permission.old.round) × (permission.new.value ≡ permission.old.value) }
-        ensures kind { (result ≡ old → permission.new.kind ≡ strong_and_weak) × (result ≢ old → permission.new.kind ≡ one_strong) }
+        requires seat { MayStep P.holds self.now seat.old (exchanged old new) (M.then old new seat.old.view) }
+        requires permission { IsOf self.now one_strong permission.old }
+        ensures seat { Stepped (M.then old new seat.old.view) seat.old result seat.new }
+        ensures permission { SameValue permission.old permission.new }
+        ensures kind { KindBy result old strong_and_weak one_strong permission.new.kind }
     {
         unsafe { exchange::<Brand>(&raw const self.word, old, new) }
     }
@@ -141,16 +141,17 @@ impl<T, W, P: CountRule<W>> CountWord<T, W, P> {
         new: u64,
     ) -> u64
         requires count { (weak_half old < 4294967295) × (new ≡ old + 1) }
-        requires seat { (seat.old.views ≡ self.now.views) × Keeps P.holds seat.old.id seat.old.view (λ n. either (n == old) new n) (M.then old new seat.old.view) }
-        requires permission { (permission.old.kind ≡ one_weak) × (permission.old.word_names ≡ self.now) }
-        ensures seat { (seat.new.views ≡ seat.old.views) × (seat.new.id ≡ seat.old.id) × M.then old new seat.old.view result seat.new.view }
-        ensures permission { (permission.new.ptr ≡ permission.old.ptr) × (permission.new.word_names ≡ permission.old.word_names) × (permission.new.round ≡ permission.old.round) × (permission.new.value ≡ permission.old.value) }
-        ensures kind { (result ≡ old → permission.new.kind ≡ two_weak) × (result ≢ old → permission.new.kind ≡ one_weak) }
+        requires seat { MayStep P.holds self.now seat.old (exchanged old new) (M.then old new seat.old.view) }
+        requires permission { IsOf self.now one_weak permission.old }
+        ensures seat { Stepped (M.then old new seat.old.view) seat.old result seat.new }
+        ensures permission { SameValue permission.old permission.new }
+        ensures kind { KindBy result old two_weak one_weak permission.new.kind }
     {
         unsafe { exchange::<Brand>(&raw const self.word, old, new) }
     }
 
-    /// Where the word is `old`, one strong and one weak, the strong share ends and all rights to the value are the caller's.
+    /// Where the word is `old`, one strong and one weak, the strong share ends.
+    /// All rights to the value are then the caller's.
     pub fn end_sole<M: CountStep<W>>(
         &self,
         seat: &mut Seat<W>,
@@ -159,11 +160,11 @@ impl<T, W, P: CountRule<W>> CountWord<T, W, P> {
         new: u64,
     ) -> u64
         requires count { (old ≡ 4294967297) × (new ≡ 1) }
-        requires seat { (seat.old.views ≡ self.now.views) × Keeps P.holds seat.old.id seat.old.view (λ n. either (n == old) new n) (M.then old new seat.old.view) }
-        requires permission { (permission.old.kind ≡ one_strong) × (permission.old.word_names ≡ self.now) }
-        ensures seat { (seat.new.views ≡ seat.old.views) × (seat.new.id ≡ seat.old.id) × M.then old new seat.old.view result seat.new.view }
-        ensures permission { (permission.new.ptr ≡ permission.old.ptr) × (permission.new.word_names ≡ permission.old.word_names) × (permission.new.round ≡ permission.old.round) × (permission.new.value ≡ permission.old.value) }
-        ensures kind { (result ≡ old → permission.new.kind ≡ last) × (result ≢ old → permission.new.kind ≡ one_strong) }
+        requires seat { MayStep P.holds self.now seat.old (exchanged old new) (M.then old new seat.old.view) }
+        requires permission { IsOf self.now one_strong permission.old }
+        ensures seat { Stepped (M.then old new seat.old.view) seat.old result seat.new }
+        ensures permission { SameValue permission.old permission.new }
+        ensures kind { KindBy result old last one_strong permission.new.kind }
     {
         unsafe { exchange::<Brand>(&raw const self.word, old, new) }
     }
@@ -174,11 +175,11 @@ impl<T, W, P: CountRule<W>> CountWord<T, W, P> {
         seat: &mut Seat<W>,
         permission: &mut Permission<T>,
     ) -> u64
-        requires seat { (seat.old.views ≡ self.now.views) × Keeps P.holds seat.old.id seat.old.view (λ n. (n + (2 ^ 64 - 4294967296)) % 2 ^ 64) (M.then 0 0 seat.old.view) }
-        requires permission { (permission.old.kind ≡ one_strong) × (permission.old.word_names ≡ self.now) }
-        ensures seat { (seat.new.views ≡ seat.old.views) × (seat.new.id ≡ seat.old.id) × M.then 0 0 seat.old.view result seat.new.view }
-        ensures permission { (permission.new.ptr ≡ permission.old.ptr) × (permission.new.word_names ≡ permission.old.word_names) × (permission.new.round ≡ permission.old.round) × (permission.new.value ≡ permission.old.value) }
-        ensures kind { (strong_half result ≡ 1 → permission.new.kind ≡ last) × (strong_half result ≢ 1 → permission.new.kind ≡ nothing) }
+        requires seat { MayStep P.holds self.now seat.old (less_by 4294967296) (M.then 0 0 seat.old.view) }
+        requires permission { IsOf self.now one_strong permission.old }
+        ensures seat { Stepped (M.then 0 0 seat.old.view) seat.old result seat.new }
+        ensures permission { SameValue permission.old permission.new }
+        ensures kind { KindBy (strong_half result) 1 last nothing permission.new.kind }
     {
         unsafe { raw::fetch_sub::<Brand>(&raw const self.word, 4294967296, SeqCst) }
     }
@@ -189,21 +190,22 @@ impl<T, W, P: CountRule<W>> CountWord<T, W, P> {
         seat: &mut Seat<W>,
         permission: &mut Permission<T>,
     ) -> u64
-        requires seat { (seat.old.views ≡ self.now.views) × Keeps P.holds seat.old.id seat.old.view (λ n. (n + (2 ^ 64 - 1)) % 2 ^ 64) (M.then 0 0 seat.old.view) }
-        requires permission { (permission.old.kind ≡ one_weak) × (permission.old.word_names ≡ self.now) }
-        ensures seat { (seat.new.views ≡ seat.old.views) × (seat.new.id ≡ seat.old.id) × M.then 0 0 seat.old.view result seat.new.view }
+        requires seat { MayStep P.holds self.now seat.old (less_by 1) (M.then 0 0 seat.old.view) }
+        requires permission { IsOf self.now one_weak permission.old }
+        ensures seat { Stepped (M.then 0 0 seat.old.view) seat.old result seat.new }
         ensures permission { permission.new ≡ record permission.old { kind = nothing } }
     {
         unsafe { raw::fetch_sub::<Brand>(&raw const self.word, 1, SeqCst) }
     }
 
-    /// A load. Where it reads one strong and one weak, all rights to the value are the caller's, who can bring a value back.
+    /// A load. Where it reads one strong and one weak, all rights to the value are the caller's,
+    /// who can bring a value back.
     pub fn seize<M: CountStep<W>>(&self, seat: &mut Seat<W>, permission: &mut Permission<T>) -> u64
-        requires seat { (seat.old.views ≡ self.now.views) × Keeps P.holds seat.old.id seat.old.view (λ n. n) (M.then 0 0 seat.old.view) }
-        requires permission { (permission.old.kind ≡ one_strong) × (permission.old.word_names ≡ self.now) }
-        ensures seat { (seat.new.views ≡ seat.old.views) × (seat.new.id ≡ seat.old.id) × M.then 0 0 seat.old.view result seat.new.view }
-        ensures permission { (permission.new.ptr ≡ permission.old.ptr) × (permission.new.word_names ≡ permission.old.word_names) × (permission.new.round ≡ permission.old.round) × (permission.new.value ≡ permission.old.value) }
-        ensures kind { (result ≡ 4294967297 → permission.new.kind ≡ seized) × (result ≢ 4294967297 → permission.new.kind ≡ one_strong) }
+        requires seat { MayStep P.holds self.now seat.old (λ n. n) (M.then 0 0 seat.old.view) }
+        requires permission { IsOf self.now one_strong permission.old }
+        ensures seat { Stepped (M.then 0 0 seat.old.view) seat.old result seat.new }
+        ensures permission { SameValue permission.old permission.new }
+        ensures kind { KindBy result 4294967297 seized one_strong permission.new.kind }
     {
         unsafe { raw::load::<Brand>(&raw const self.word, SeqCst) }
     }
@@ -214,9 +216,9 @@ impl<T, W, P: CountRule<W>> CountWord<T, W, P> {
         seat: &mut Seat<W>,
         permission: &mut Permission<T>,
     ) -> u64
-        requires seat { (seat.old.views ≡ self.now.views) × Keeps P.holds seat.old.id seat.old.view (λ n. n) (M.then 0 0 seat.old.view) }
-        requires permission { (permission.old.kind ≡ returning) × (permission.old.word_names ≡ self.now) }
-        ensures seat { (seat.new.views ≡ seat.old.views) × (seat.new.id ≡ seat.old.id) × M.then 0 0 seat.old.view result seat.new.view }
+        requires seat { MayStep P.holds self.now seat.old (λ n. n) (M.then 0 0 seat.old.view) }
+        requires permission { IsOf self.now returning permission.old }
+        ensures seat { Stepped (M.then 0 0 seat.old.view) seat.old result seat.new }
         ensures permission { permission.new ≡ record permission.old { kind = one_strong } }
     {
         unsafe { raw::load::<Brand>(&raw const self.word, SeqCst) }
