@@ -2,7 +2,8 @@
 //!
 //! A registry's list of distinct tables only grows at its end; a table's number is its place in that list. What a caller
 //! has seen of the list is the front of its pass, a prefix of the list. `intern_all` appends exactly the tables that were
-//! absent and answers each table's number; `ranks` turns numbers into places in sorted order.
+//! absent and answers each table's number; `ranks` turns numbers into places in sorted order. [`VtBtree`] is a registry
+//! under a turn, [`VtVec`] one without, in a row of so many words.
 #![tactic(auto)]
 
 mod catalog;
@@ -16,6 +17,7 @@ mod lists_words;
 mod numbered;
 mod ranking;
 mod registry;
+mod row;
 mod snapshot;
 mod table;
 mod try_insert;
@@ -31,10 +33,14 @@ pub use lists_words::ListsWords;
 pub use numbered::Numbered;
 pub use ranking::ranks;
 pub use registry::{TreePass, VtBtree};
+pub use row::VtVec;
 pub use stabby_cell::{Busy, CellFault};
 pub use stabby_layout::AllocationError;
+pub use stabby_row::{RowFull, RowPass};
 pub use table::WordTable;
 pub use vtable_registry::VTableRegistry;
 
+#[cfg(test)]
+mod row_tests;
 #[cfg(test)]
 mod tests;
