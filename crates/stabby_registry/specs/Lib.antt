@@ -8,3 +8,4 @@ pub mod Tries
 pub mod Loans
 pub mod Laws
 pub mod TryVisits
+pub mod Counted

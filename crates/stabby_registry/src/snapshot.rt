@@ -1,6 +1,6 @@
 //! Reading a registry's version.
 
-ghost use Rattle.std.specs.Prelude.{◌≡◌, ◌≤◌, length, IfOk, IfErr, OnOk, OnErr, MatchOption};
+ghost use Rattle.std.specs.Prelude.{◌≡◌, ◌+◌, ◌-◌, ◌*◌, ◌<◌, ◌≤◌, length, IfOk, IfErr, OnOk, OnErr, MatchOption};
 ghost use Rattle.stabby_tables.specs.Lists.{IsDistinct, ordered};
 ghost use Rattle.stabby_cell.specs.Passes.{front_of, Looked};
 
@@ -10,6 +10,7 @@ use crate::registry::{TreePass, VtBtree};
 use crate::table::WordTable;
 use stabby_cell::{Busy, CellFault};
 use stabby_layout::AllocationError;
+use stabby_tree::Probe;
 use std::alloc::Global;
 use std::sync::{Arc, Wait};
 
@@ -17,6 +18,7 @@ impl<const SIZE: usize> VtBtree<SIZE> {
     ghost use Rattle.stabby_registry.specs.Passes.{IsPassOf};
     ghost use Rattle.stabby_registry.specs.Inserts.{IsNumber, IsReadFault};
     ghost use Rattle.stabby_registry.specs.Tries.{HasTriedRead};
+    ghost use Rattle.stabby_registry.specs.Counted.{number_in, CountsOnePath};
 
     /// The registry's list, as of the last step of this call.
     ///
@@ -65,6 +67,33 @@ impl<const SIZE: usize> VtBtree<SIZE> {
                 }
             }
         }
+    }
+
+    /// The number of the probe's table: its place in the front after; `None` exactly where it is absent.
+    ///
+    /// The probe compares on one path of the version's tree, and without the turn. Its count may be up to 64 times `SIZE - 1`
+    /// below `u64::MAX`.
+    ///
+    /// # Errors
+    /// `Memory`, where the copy of the version finds none; then nothing was compared.
+    pub fn find_counted<P: Probe<Numbered>, H: Wait>(
+        &self,
+        rt: &H,
+        pass: &mut TreePass<SIZE>,
+        probe: &mut P,
+    ) -> Result<Option<u64>, AllocationError>
+        requires own { IsPassOf self.now pass.old }
+        requires room { P.count probe.old + 64 * (SIZE - 1) < 18446744073709551615 }
+        ensures pass { IsPassOf self.now pass.new }
+        ensures looked { Looked pass.old pass.new }
+        ensures found { IfOk result (λ found. found ≡ number_in (front_of pass.new) (P.sought probe.old)) }
+        ensures key { P.sought probe.new ≡ P.sought probe.old }
+        ensures count { OnOk result (CountsOnePath SIZE (front_of pass.new) (P.count probe.old) (P.count probe.new)) }
+        ensures uncounted { OnErr result (P.count probe.new ≡ P.count probe.old) }
+        ensures memory { IfErr result (λ error. error ≡ AllocationError.Memory) }
+    {
+        let version = self.snapshot(rt, pass)?;
+        Ok(version.number_counted(probe))
     }
 
     /// The table with this number; `None` exactly where the number isn't below the length of the list.
