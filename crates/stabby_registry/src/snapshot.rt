@@ -119,6 +119,38 @@ impl<const SIZE: usize> VtBtree<SIZE> {
         entry
     }
 
+    /// `entry` by one try at the turn.
+    ///
+    /// # Errors
+    /// `Busy` only where another pass held the turn: `lost` rose by one, the front stays; never for a whole pass.
+    /// `Memory`, where std's `Arc` gives no further handle.
+    #[tactic(auto, using(crate::proofs::Trying::tried_missed))]
+    pub fn try_entry(
+        &self,
+        pass: &mut TreePass<SIZE>,
+        number: u64,
+    ) -> Result<Option<Arc<WordTable, Global>>, CellFault>
+        requires { IsPassOf self.now pass.old }
+        ensures pass { IsPassOf self.now pass.new }
+        ensures looked { OnOk result (Looked pass.old pass.new) }
+        ensures entry { IfOk result (λ entry. MatchOption entry (length (front_of pass.new) ≤ number)
+            (λ table. IsNumber (front_of pass.new) table.value number)) }
+        ensures tried { HasTriedRead pass.old pass.new result }
+        ensures refused { IfErr result (IsReadFault pass.old pass.new) }
+    {
+        match pass.try_take(&self.cell) {
+            Err(Busy) => Err(CellFault::Busy),
+            Ok(turn) => {
+                let handle = turn.version().handle_of(number);
+                turn.release();
+                match handle {
+                    Ok(entry) => Ok(entry),
+                    Err(_) => Err(CellFault::Memory),
+                }
+            }
+        }
+    }
+
     // The tables with their numbers, in order, as of the last step of this call.
     pub(crate) fn entries<H: Wait>(
         &self,
