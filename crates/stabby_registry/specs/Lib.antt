@@ -9,3 +9,4 @@ pub mod Loans
 pub mod Laws
 pub mod TryVisits
 pub mod Rows
+pub mod Counted

@@ -1,6 +1,6 @@
 //! A registry's version: a list of distinct tables, kept as a set of numbered tables.
 
-ghost use Rattle.std.specs.Prelude.{◌≡◌, ◌<◌, ◌++◌, ◌∷◌, ◌^◌, [], false, length, ◌-◌, ◌≤◌, ℕ, List, All, MatchOption, IfOk, IfErr, OnOk, OnErr, Some, None, if◌then◌else◌};
+ghost use Rattle.std.specs.Prelude.{◌≡◌, ◌<◌, ◌++◌, ◌∷◌, ◌^◌, [], false, length, ◌+◌, ◌-◌, ◌*◌, ◌≤◌, ℕ, List, All, MatchOption, IfOk, IfErr, OnOk, OnErr, Some, None, if◌then◌else◌};
 ghost use Rattle.stabby_tables.specs.Lists.{has, place, ordered, IsDistinct};
 ghost use Rattle.stabby_tree.specs.Sets.{IsLimit};
 ghost use Rattle.stabby_registry.specs.Interned.{CanRank};
@@ -9,7 +9,7 @@ use crate::numbered::Numbered;
 use crate::table::WordTable;
 use stabby_cell::Chronicle;
 use stabby_layout::AllocationError;
-use stabby_tree::ArcBTreeSet;
+use stabby_tree::{ArcBTreeSet, Probe};
 use std::alloc::Global;
 use std::marker::Model;
 use std::sync::Arc;
@@ -68,6 +68,7 @@ impl<const SIZE: usize> Chronicle for Catalog<SIZE> {
 impl<const SIZE: usize> Catalog<SIZE> {
     ghost use Rattle.stabby_registry.specs.Visits.{HasFound};
     ghost use Rattle.stabby_registry.specs.Inserts.{IsNumber};
+    ghost use Rattle.stabby_registry.specs.Counted.{number_in, CountsOnePath};
 
     pub(crate) fn new(alloc: Global) -> Catalog<SIZE>
         requires { IsLimit SIZE }
@@ -110,6 +111,22 @@ impl<const SIZE: usize> Catalog<SIZE> {
         ensures distinct { IsDistinct self.now }
     {
         match self.entries.get(table) {
+            Some(entry) => Some(entry.number()),
+            None => None,
+        }
+    }
+
+    /// The number of the probe's table; `None` exactly where it is absent. One path of the tree is compared.
+    pub(crate) fn number_counted<P: Probe<Numbered>>(&self, probe: &mut P) -> Option<u64>
+        requires room { P.count probe.old + 64 * (SIZE - 1) < 18446744073709551615 }
+        ensures number { result ≡ number_in self.now (P.sought probe.old) }
+        ensures key { P.sought probe.new ≡ P.sought probe.old }
+        ensures count { CountsOnePath SIZE self.now (P.count probe.old) (P.count probe.new) }
+    {
+        if self.entries.height() == 0 {
+            return None;
+        }
+        match self.entries.get_counted(probe) {
             Some(entry) => Some(entry.number()),
             None => None,
         }

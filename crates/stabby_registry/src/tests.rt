@@ -4,6 +4,7 @@ use crate::{
     AllocationError, Busy, Catalog, Gate, ListsWords, OpenGate, TryFault, VTableRegistry, VtBtree,
     WordTable, intern_all, ranks, try_hold,
 };
+use stabby_tree::KeyProbe;
 use std::alloc::Global;
 use std::marker::Sync;
 use std::sync::atomic::{AtomicBool, Ordering};
@@ -208,6 +209,36 @@ fn registry_calls_read_back(rt: HostRuntime) -> Result<(), Fail> {
             .map_err(|_| "memory")?
             .is_none()
     );
+    Ok(())
+}
+
+#[test]
+fn registry_calls_find_by_count(rt: HostRuntime) -> Result<(), Fail> {
+    let alloc = rt.alloc();
+    let four = WordTable::from_words(alloc, &[4]).map_err(|_| "memory")?;
+    let Ok((registry, mut pass)) = VtBtree::<5>::new(alloc) else {
+        return Err("memory")?;
+    };
+    assert!(rt; registry.insert(&rt, alloc, &mut pass, &four) == Ok(0));
+    let mut probe = KeyProbe::new(four);
+    assert!(rt; registry.find_counted(&rt, &mut pass, &mut probe) == Ok(Some(0)));
+    assert!(rt; probe.count() == 1);
+    Ok(())
+}
+
+#[test]
+fn registry_calls_read_by_one_try(rt: HostRuntime) -> Result<(), Fail> {
+    let alloc = rt.alloc();
+    let three = WordTable::from_words(alloc, &[3]).map_err(|_| "memory")?;
+    let Ok((registry, mut pass)) = VtBtree::<5>::new(alloc) else {
+        return Err("memory")?;
+    };
+    assert!(rt; registry.insert(&rt, alloc, &mut pass, &three) == Ok(0));
+    let Ok(Some(first)) = registry.try_entry(&mut pass, 0) else {
+        return Err("number 0 was given")?;
+    };
+    assert_eq!(rt; first.words(), &[3u64][..]);
+    assert!(rt; matches!(registry.try_entry(&mut pass, 1), Ok(None)));
     Ok(())
 }
 
