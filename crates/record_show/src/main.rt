@@ -5,6 +5,8 @@
 mod messages;
 mod program;
 mod status;
+#[cfg(test)]
+mod tests;
 mod text;
 
 use crate::program::run;
