@@ -1,15 +1,10 @@
 //! Each call once, with expected values worked out by hand.
-ghost use Rattle.std.specs.Prelude.{◌≡◌, ◌<◌, ◌≤◌};
-ghost use Rattle.std.specs.Thread.{IsSync};
-ghost use Rattle.stabby_cell.specs.Passes.{weight_of};
 ghost use Rattle.stabby_index.specs.Passes.{IsPassOf};
 
 use crate::{AllocationError, ApplyFault, Change, Index, IndexPass, Row, Text, View};
 use std::alloc::Global;
-use std::marker::Sync;
 use std::sync::Wait;
 use std::test::Fail;
-use std::thread::{Threads, join};
 
 fn row(alloc: Global, key: u64, group: u64, text: &str) -> Result<Row, AllocationError> {
     Ok(Row {
@@ -152,78 +147,6 @@ fn versions_are_kept(rt: HostRuntime) -> Result<(), Fail> {
     assert!(rt; matches!(first, Ok(true)));
     assert!(rt; is_gone(&rt, &index, &mut pass, 0));
     assert!(rt; is_gone(&rt, &index, &mut pass, 3));
-    Ok(())
-}
-
-// Fifty calls of one row each.
-fn put_each<H: Wait>(
-    rt: &H,
-    alloc: Global,
-    index: &Index,
-    mut pass: IndexPass,
-    first: u64,
-) -> IndexPass
-    requires pass { IsPassOf index.now pass }
-    requires small { first ≤ 1 }
-    ensures { IsPassOf index.now result }
-{
-    for i in 0..50u64 {
-        if let Ok(row) = row(alloc, first + 2 * i, 7, "x") {
-            let change = [Change::Put(row)];
-            let _ = index.apply(rt, alloc, &mut pass, &change, None);
-        }
-    }
-    pass
-}
-
-// The even keys below 100 from one thread and the odd ones from another.
-fn put_in_two_threads<H: Threads + Wait + Sync>(
-    rt: &H,
-    alloc: Global,
-    index: &Index,
-    mut pass: IndexPass,
-) -> IndexPass
-    requires own { IsPassOf index.now pass }
-    requires heavy { 1 < weight_of pass }
-    ensures { IsPassOf index.now result }
-{
-    let other = index.split(&mut pass, 1);
-    let (mut first, second) = join(
-        rt,
-        || -> IndexPass
-            requires { IsSync H.row × IsPassOf index.now pass }
-            ensures { IsPassOf index.entry.now result }
-        { put_each(rt, alloc, index, pass, 0) },
-        || -> IndexPass
-            requires { IsSync H.row × IsPassOf index.now other }
-            ensures { IsPassOf index.entry.now result }
-        { put_each(rt, alloc, index, other, 1) },
-    );
-    index.join(&mut first, second);
-    first
-}
-
-fn has_rows<H: Wait>(rt: &H, index: &Index, pass: &mut IndexPass, stamp: u64, count: u64) -> bool
-    requires { IsPassOf index.now pass.old }
-    ensures { IsPassOf index.now pass.new }
-{
-    match index.at(rt, pass, stamp) {
-        Ok(Some(view)) => view.len() == count,
-        _ => false,
-    }
-}
-
-#[test]
-fn two_threads_apply(rt: HostRuntime) -> Result<(), Fail> {
-    let alloc = rt.alloc();
-    let Ok((index, pass)) = Index::new(alloc, 2) else {
-        return Err("memory")?;
-    };
-    let mut pass = put_in_two_threads(&rt, alloc, &index, pass);
-    assert!(rt; pass.is_whole());
-    assert!(rt; (pass.seen(), pass.added()) == (100, 100));
-    assert!(rt; has_rows(&rt, &index, &mut pass, 100, 100));
-    assert!(rt; has_rows(&rt, &index, &mut pass, 99, 99));
     Ok(())
 }
 
