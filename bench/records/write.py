@@ -51,7 +51,7 @@ def each_change(cases, rng, front, data, outcome):
     cases.add("longer", "read", front, more, read_answer(outcome, more))
     for at in range(len(data)):
         cases.add("cut", "read", front, data[:at], read_answer(outcome, data[:at]))
-        for byte in {data[at] ^ 1, data[at] ^ 0x80, rng.randrange(256)} - {data[at]}:
+        for byte in set(range(256)) - {data[at]}:
             other = data[:at] + bytes([byte]) + data[at + 1:]
             cases.add("one byte changed", "read", front, other, read_answer(outcome, other))
 

@@ -4,7 +4,7 @@ ghost use Rattle.std.specs.Prelude.{◌≡◌, ℕ, ◌+◌, ◌*◌, ◌/◌, �
 ghost use Rattle.std.specs.declared.cmp.Ordering.TheVariants.{Less, Equal, Greater};
 ghost use Rattle.stabby_tree.specs.Order.{AllByRecursion, IsRising};
 ghost use Rattle.stabby_tree.specs.Few.{few_items, IsFor};
-ghost use Rattle.stabby_tree.specs.Shape.{flat, below, depth_of, IsHeavy, AreHeavy, Copies};
+ghost use Rattle.stabby_tree.specs.Shape.{flat, below, depth_of, IsHeavy, AreHeavy, KeyAt, Copies};
 ghost use Rattle.stabby_tree.specs.Insert.{LinkTook, EntriesTook, EntriesKept};
 
 use crate::copier::{Copier, copied};
@@ -174,8 +174,8 @@ fn place<T: Keyed, A: Allocator, P: Limit>(
     requires rising { IsRising T.key_of T.Key.cmp (flat (few_items entries.now) None) }
     ensures within { result.0 ≤ length (few_items entries.now) }
     ensures less { AllByRecursion (λ y. T.Key.cmp (T.key_of y) key.now ≡ Less) (flat (take result.0 (few_items entries.now)) None) }
-    ensures hit { result.1 ≡ true → (result.0 < length (few_items entries.now)) × ((e : _) → T.Key.cmp (T.key_of (slice_index_or (few_items entries.now) result.0 e).value) key.now ≡ Equal) }
-    ensures miss { result.1 ≡ false → result.0 < length (few_items entries.now) → (e : _) → T.Key.cmp (T.key_of (slice_index_or (few_items entries.now) result.0 e).value) key.now ≡ Greater }
+    ensures hit { result.1 ≡ true → (result.0 < length (few_items entries.now)) × KeyAt T.key_of T.Key.cmp (few_items entries.now) result.0 key.now Equal }
+    ensures miss { result.1 ≡ false → result.0 < length (few_items entries.now) → KeyAt T.key_of T.Key.cmp (few_items entries.now) result.0 key.now Greater }
 {
     for at in 0..entries.len() {
         match entries.at(at).value.key().cmp(key) {
