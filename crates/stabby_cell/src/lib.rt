@@ -7,8 +7,6 @@
 //! An [`AtomicArc`] is a cell of shared values, an [`AtomicArcBTreeSet`] one of sets that closures edit.
 #![tactic(auto)]
 
-#[cfg(test)]
-mod arc_tests;
 mod atomic;
 mod cell;
 mod chronicle;
@@ -23,13 +21,9 @@ mod pass;
 mod plays;
 mod protocol;
 mod replaced;
-#[cfg(test)]
-mod set_tests;
 mod set_version;
 mod shared_set;
 mod shared_value;
-#[cfg(test)]
-mod tests;
 mod turn;
 mod view;
 

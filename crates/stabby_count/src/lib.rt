@@ -25,6 +25,3 @@ pub use strong::Arc;
 pub use text::{ArcStr, WeakStr};
 pub use view::{Note, View};
 pub use weak::Weak;
-
-#[cfg(test)]
-mod tests;

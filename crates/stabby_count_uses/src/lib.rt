@@ -1,6 +1,8 @@
 //! Callers of counted handles, in a crate of their own: what a program knows of a value that its threads share.
 #![tactic(auto)]
 
+#[cfg(test)]
+mod calls_tests;
 mod one_thread;
 mod single;
 #[cfg(test)]

@@ -22,17 +22,9 @@ mod word;
 
 pub use device::{Failed, Sink, Source};
 pub use memory::{MemorySink, MemorySource};
+pub use messages::tell;
 pub use program::run;
 pub use standard::{StderrSink, StdinSource, StdoutSink};
 pub use status::Status;
 pub use sure::{SureSink, SureSource};
 pub use transfer::{ReadFault, read_to_end, write_all};
-
-#[cfg(test)]
-mod device_tests;
-#[cfg(test)]
-mod gate_tests;
-#[cfg(test)]
-mod overlap_tests;
-#[cfg(test)]
-mod tests;

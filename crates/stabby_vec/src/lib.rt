@@ -8,7 +8,6 @@
 
 pub mod boxed_slice;
 mod boxed_traits;
-mod callers;
 mod comparison;
 pub mod double_ended;
 pub mod drains;
@@ -18,15 +17,11 @@ pub mod indexing;
 pub mod into_iter;
 mod printing;
 pub mod removal;
-#[cfg(test)]
-mod replay;
 pub mod sequence;
 pub mod single;
 mod single_comparison;
 pub mod single_growth;
 mod single_parts;
-#[cfg(test)]
-mod tests;
 
 pub use boxed_slice::BoxedSlice;
 pub use double_ended::DoubleEndedDrain;

@@ -1,5 +1,0 @@
-use Rattle.stabby_cell.specs.Replaced.{IsPassOf}
-use Rattle.stabby_cell.proofs.set_tests.snapshot_at.Given as goal
-
-abbrev pub invariant-loop-number : goal.invariant-loop-number
-invariant-loop-number g l = IsPassOf l.set l.pass
