@@ -1,10 +1,10 @@
 //! The worked rows, through `run` over devices in memory.
 
+use crate::run_fresh;
 use stabby_intern::{
     MemorySink, MemorySource, Sink, Source, Status, StderrSink, StdinSource, StdoutSink, SureSink,
-    SureSource, run, tell,
+    SureSource, tell,
 };
-use stabby_registry::{OpenGate, VtBtree};
 use std::alloc::Global;
 use std::marker::Sync;
 use std::sync::Wait;
@@ -34,22 +34,8 @@ fn run_over<S: Source, K: Sink, E: Sink, H: Threads + Wait + Sync>(
         let word = String::from_str(alloc, *word).map_err(|_| "memory")?;
         words.push(word).map_err(|_| "memory")?;
     }
-    let (mut registry, mut pass) = VtBtree::<5>::new(alloc).map_err(|_| "memory")?;
-    let status = run(
-        rt,
-        alloc,
-        &words,
-        source,
-        out,
-        log,
-        &mut registry,
-        &mut pass,
-        &OpenGate,
-    );
-    Ok(Ended {
-        status,
-        seen: pass.seen(),
-    })
+    let (status, seen) = run_fresh(rt, alloc, &words, source, out, log).map_err(|_| "memory")?;
+    Ok(Ended { status, seen })
 }
 
 fn source_of(alloc: Global, input: &str) -> Result<MemorySource, &'static str> {
