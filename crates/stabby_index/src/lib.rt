@@ -13,8 +13,6 @@ pub mod laws;
 mod reading;
 mod row;
 mod slot;
-#[cfg(test)]
-mod tests;
 mod version;
 mod view;
 

@@ -39,8 +39,3 @@ pub use stabby_layout::AllocationError;
 pub use stabby_row::{RowFull, RowPass};
 pub use table::WordTable;
 pub use vtable_registry::VTableRegistry;
-
-#[cfg(test)]
-mod row_tests;
-#[cfg(test)]
-mod tests;

@@ -24,8 +24,3 @@ pub use keyed::Keyed;
 pub use map::ArcBTreeMap;
 pub use probe::{KeyProbe, Probe};
 pub use set::ArcBTreeSet;
-
-#[cfg(test)]
-mod random_tests;
-#[cfg(test)]
-mod tests;

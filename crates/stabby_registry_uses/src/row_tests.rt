@@ -3,7 +3,7 @@
 ghost use Rattle.std.specs.Prelude.{◌≡◌, ◌<◌};
 ghost use Rattle.stabby_registry.specs.Rows.{IsPassOf, weight_of};
 
-use crate::{RegistryFault, RowFull, RowPass, VTableRegistry, VtVec, WordTable};
+use stabby_registry::{RegistryFault, RowFull, RowPass, VTableRegistry, VtVec, WordTable};
 use std::marker::Sync;
 use std::test::Fail;
 use std::thread;

@@ -1,7 +1,7 @@
 //! Each call once, with expected values worked out by hand.
 ghost use Rattle.stabby_index.specs.Passes.{IsPassOf};
 
-use crate::{AllocationError, ApplyFault, Change, Index, IndexPass, Row, Text, View};
+use stabby_index::{AllocationError, ApplyFault, Change, Index, IndexPass, Row, Text, View};
 use std::alloc::Global;
 use std::sync::Wait;
 use std::test::Fail;

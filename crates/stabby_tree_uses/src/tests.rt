@@ -1,6 +1,6 @@
 //! Each call at a concrete type, and many inserts beside std's map.
 
-use crate::{ArcBTreeMap, ArcBTreeSet, CloneCopier, Entry, KeyProbe};
+use stabby_tree::{ArcBTreeMap, ArcBTreeSet, CloneCopier, Entry, KeyProbe};
 use std::alloc::Global;
 use std::collections::BTreeMap;
 use std::test::Fail;

@@ -1,6 +1,6 @@
 //! Each call once, with expected values worked out by hand.
 
-use crate::{
+use stabby_registry::{
     AllocationError, Busy, Catalog, Gate, ListsWords, OpenGate, TryFault, VTableRegistry, VtBtree,
     WordTable, intern_all, ranks, try_hold,
 };

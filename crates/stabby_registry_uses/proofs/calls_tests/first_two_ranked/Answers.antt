@@ -1,6 +1,6 @@
 use Rattle.std.proofs.Common.{rules, arith, ◌≡◌, ◌<◌, ◌∷◌, [], length}
 use Rattle.std.proofs.lemmas.List.Elements.{All-from_recursion}
-use Rattle.stabby_registry.proofs.tests.first_two_ranked.Goals as goal
+use Rattle.stabby_registry_uses.proofs.calls_tests.first_two_ranked.Goals as goal
 
 pub ranks-requires : goal.ranks-requires
 ranks-requires c =

@@ -2,7 +2,7 @@
 
 ghost use Rattle.stabby_tree.specs.Sets.{IsLimit};
 
-use crate::ArcBTreeSet;
+use stabby_tree::ArcBTreeSet;
 use std::alloc::Global;
 use std::collections::BTreeMap;
 use std::test::Fail;
