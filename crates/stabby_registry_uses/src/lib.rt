@@ -4,4 +4,6 @@
 #[cfg(test)]
 mod calls_tests;
 #[cfg(test)]
+mod gate_tests;
+#[cfg(test)]
 mod row_tests;
