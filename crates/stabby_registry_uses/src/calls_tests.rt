@@ -19,18 +19,11 @@ fn ranks_of_four_tables(rt: HostRuntime) -> Result<(), Fail> {
     let alloc = rt.alloc();
     let mut tables = Vec::new(alloc);
     for words in [&[1u64][..], &[1, 0][..], &[0, 9][..], &[][..], &[1][..]] {
-        tables.push(WordTable::from_words(alloc, words).map_err(|_| "memory")?)?;
+        tables.push(WordTable::from_words(alloc, words)?)?;
     }
-    let Ok((mut registry, mut pass)) = VtBtree::<5>::new(alloc) else {
-        return Err("memory")?;
-    };
-    let Ok(interned) = intern_all(&rt, alloc, &mut registry, &mut pass, &tables, 1, &OpenGate)
-    else {
-        return Err("memory")?;
-    };
-    let Ok(ranked) = ranks(alloc, interned.entries(), interned.numbers()) else {
-        return Err("memory")?;
-    };
+    let (mut registry, mut pass) = VtBtree::<5>::new(alloc)?;
+    let interned = intern_all(&rt, alloc, &mut registry, &mut pass, &tables, 1, &OpenGate)?;
+    let ranked = ranks(alloc, interned.entries(), interned.numbers())?;
     assert_eq!(rt; interned.numbers(), &[0u64, 1, 2, 3, 0][..]);
     assert_eq!(rt; ranked.as_slice(), &[2u64, 3, 1, 0, 2][..]);
     assert_eq!(rt; (pass.seen(), pass.added(), pass.is_whole()), (4, 4, true));
@@ -42,18 +35,11 @@ fn ranks_are_the_same_by_three_workers(rt: HostRuntime) -> Result<(), Fail> {
     let alloc = rt.alloc();
     let mut tables = Vec::new(alloc);
     for words in [&[1u64][..], &[1, 0][..], &[0, 9][..], &[][..], &[1][..]] {
-        tables.push(WordTable::from_words(alloc, words).map_err(|_| "memory")?)?;
+        tables.push(WordTable::from_words(alloc, words)?)?;
     }
-    let Ok((mut registry, mut pass)) = VtBtree::<5>::new(alloc) else {
-        return Err("memory")?;
-    };
-    let Ok(interned) = intern_all(&rt, alloc, &mut registry, &mut pass, &tables, 3, &OpenGate)
-    else {
-        return Err("memory")?;
-    };
-    let Ok(ranked) = ranks(alloc, interned.entries(), interned.numbers()) else {
-        return Err("memory")?;
-    };
+    let (mut registry, mut pass) = VtBtree::<5>::new(alloc)?;
+    let interned = intern_all(&rt, alloc, &mut registry, &mut pass, &tables, 3, &OpenGate)?;
+    let ranked = ranks(alloc, interned.entries(), interned.numbers())?;
     assert_eq!(rt; ranked.as_slice(), &[2u64, 3, 1, 0, 2][..]);
     assert_eq!(rt; (pass.seen(), pass.added(), pass.is_whole()), (4, 4, true));
     Ok(())
@@ -62,11 +48,11 @@ fn ranks_are_the_same_by_three_workers(rt: HostRuntime) -> Result<(), Fail> {
 #[test]
 fn tables_compare_as_slices(rt: HostRuntime) -> Result<(), Fail> {
     let alloc = rt.alloc();
-    let low = WordTable::from_words(alloc, &[]).map_err(|_| "memory")?;
-    let zero = WordTable::from_words(alloc, &[0]).map_err(|_| "memory")?;
-    let high = WordTable::from_words(alloc, &[7, 1]).map_err(|_| "memory")?;
+    let low = WordTable::from_words(alloc, &[])?;
+    let zero = WordTable::from_words(alloc, &[0])?;
+    let high = WordTable::from_words(alloc, &[7, 1])?;
     assert!(rt; low < zero && zero < high && low != zero);
-    let copy = high.copy().map_err(|_| "memory")?;
+    let copy = high.copy()?;
     assert!(rt; copy == high && copy.words() == &[7u64, 1][..]);
     Ok(())
 }
@@ -121,19 +107,15 @@ fn workers_overlap(rt: HostRuntime) -> Result<(), Fail> {
     let alloc = rt.alloc();
     let mut tables = Vec::new(alloc);
     for words in [&[1u64][..], &[2][..]] {
-        tables.push(WordTable::from_words(alloc, words).map_err(|_| "memory")?)?;
+        tables.push(WordTable::from_words(alloc, words)?)?;
     }
     let gate = Meeting {
         built: AtomicBool::new(false),
         numbered: AtomicBool::new(false),
         missed: AtomicBool::new(false),
     };
-    let Ok((mut registry, mut pass)) = VtBtree::<5>::new(alloc) else {
-        return Err("memory")?;
-    };
-    let Ok(interned) = intern_all(&rt, alloc, &mut registry, &mut pass, &tables, 2, &gate) else {
-        return Err("memory")?;
-    };
+    let (mut registry, mut pass) = VtBtree::<5>::new(alloc)?;
+    let interned = intern_all(&rt, alloc, &mut registry, &mut pass, &tables, 2, &gate)?;
     assert!(rt; !gate.missed.load(Ordering::SeqCst));
     assert_eq!(rt; interned.numbers(), &[1u64, 0][..]);
     let entries = interned.entries();
@@ -165,10 +147,8 @@ impl ListsWords for TwoWords {
 #[test]
 fn insert_within(rt: HostRuntime) -> Result<(), Fail> {
     let alloc = rt.alloc();
-    let five = WordTable::from_words(alloc, &[5]).map_err(|_| "memory")?;
-    let Ok((registry, mut pass)) = VtBtree::<5>::new(alloc) else {
-        return Err("memory")?;
-    };
+    let five = WordTable::from_words(alloc, &[5])?;
+    let (registry, mut pass) = VtBtree::<5>::new(alloc)?;
     assert!(rt; registry.insert_within(&rt, alloc, &mut pass, &five, 1) == Ok(0));
     assert!(rt; registry.insert_within(&rt, alloc, &mut pass, &five, 1) == Ok(0));
     Ok(())
@@ -297,15 +277,11 @@ fn lists_four(alloc: Global, catalog: &Catalog<5>) -> bool {
 
 // The ranks of the numbers 0 and 1 among four tables.
 fn first_two_ranked(alloc: Global, catalog: &Catalog<5>) -> Result<Vec<u64>, Fail> {
-    let Ok(entries) = catalog.entries(alloc) else {
-        return Err("memory")?;
-    };
+    let entries = catalog.entries(alloc)?;
     if entries.len() != 4 {
         return Err("four tables were added")?;
     }
-    let Ok(ranked) = ranks(alloc, &entries, &[0, 1]) else {
-        return Err("memory")?;
-    };
+    let ranked = ranks(alloc, &entries, &[0, 1])?;
     Ok(ranked)
 }
 
@@ -313,16 +289,12 @@ fn first_two_ranked(alloc: Global, catalog: &Catalog<5>) -> Result<Vec<u64>, Fai
 #[test]
 fn registry_calls(rt: HostRuntime) -> Result<(), Fail> {
     let alloc = rt.alloc();
-    let Ok((registry, mut pass)) = VtBtree::<5>::new(alloc) else {
-        return Err("memory")?;
-    };
+    let (registry, mut pass) = VtBtree::<5>::new(alloc)?;
     assert!(rt; numbers_are_given(&rt, alloc, &registry, &mut pass));
     assert!(rt; four_is_found(&rt, alloc, &registry, &mut pass));
     assert!(rt; pair_is_there(&rt, alloc, &registry, &mut pass));
     assert!(rt; four_are_read(&rt, &registry, &mut pass));
-    let Ok(snapshot) = registry.snapshot(&rt, &mut pass) else {
-        return Err("memory")?;
-    };
+    let snapshot = registry.snapshot(&rt, &mut pass)?;
     assert!(rt; lists_four(alloc, &snapshot));
     let ranked = first_two_ranked(alloc, &snapshot)?;
     assert_eq!(rt; ranked.as_slice(), &[3u64, 0][..]);
@@ -333,7 +305,7 @@ fn registry_calls(rt: HostRuntime) -> Result<(), Fail> {
 #[test]
 fn busy_while_held(rt: HostRuntime) -> Result<(), Fail> {
     let alloc = rt.alloc();
-    let (registry, mut first) = VtBtree::<5>::new(alloc).map_err(|_| "memory")?;
+    let (registry, mut first) = VtBtree::<5>::new(alloc)?;
     let mut second = registry.split(&mut first, 1);
     match registry.try_hold(&mut first) {
         Err(Busy) => return Err("the turn was free")?,
@@ -357,8 +329,8 @@ fn busy_while_held(rt: HostRuntime) -> Result<(), Fail> {
 #[test]
 fn inserts_are_busy_while_held(rt: HostRuntime) -> Result<(), Fail> {
     let alloc = rt.alloc();
-    let one = WordTable::from_words(alloc, &[1]).map_err(|_| "memory")?;
-    let (registry, mut first) = VtBtree::<5>::new(alloc).map_err(|_| "memory")?;
+    let one = WordTable::from_words(alloc, &[1])?;
+    let (registry, mut first) = VtBtree::<5>::new(alloc)?;
     let mut second = registry.split(&mut first, 1);
     match registry.try_hold(&mut first) {
         Err(Busy) => return Err("the turn was free")?,
@@ -369,5 +341,26 @@ fn inserts_are_busy_while_held(rt: HostRuntime) -> Result<(), Fail> {
             held.release();
         }
     }
+    Ok(())
+}
+
+#[test]
+fn two_callers_lose_a_step_each(rt: HostRuntime) -> Result<(), Fail> {
+    let alloc = rt.alloc();
+    let one = WordTable::from_words(alloc, &[1])?;
+    let (registry, mut a) = VtBtree::<5>::new(alloc)?;
+    let mut b = registry.split(&mut a, 1);
+    let mut c = registry.split(&mut a, 1);
+    match registry.try_hold(&mut a) {
+        Err(Busy) => return Err("the turn was free")?,
+        Ok(held) => {
+            assert!(rt; registry.try_insert(alloc, &mut b, &one) == Err(TryFault::Busy));
+            assert!(rt; registry.try_insert(alloc, &mut c, &one) == Err(TryFault::Busy));
+            held.release();
+        }
+    }
+    registry.join(&mut a, b);
+    registry.join(&mut a, c);
+    assert_eq!(rt; (a.lost(), a.is_whole()), (2, true));
     Ok(())
 }

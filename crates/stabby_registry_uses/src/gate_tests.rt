@@ -2,7 +2,7 @@
 
 ghost use Rattle.stabby_registry.specs.Passes.{IsPassOf};
 
-use stabby_registry::{Gate, TreePass, VtBtree, WordTable, intern_all};
+use stabby_registry::{AllocationError, Gate, TreePass, VtBtree, WordTable, intern_all};
 use std::alloc::Global;
 use std::sync::Wait;
 use std::sync::atomic::{AtomicU64, AtomicUsize, Ordering};
@@ -89,10 +89,10 @@ struct Recorder {
 
 impl Recorder {
     // A recorder of at most so many calls.
-    fn new(alloc: Global, calls: usize) -> Result<Recorder, &'static str> {
+    fn new(alloc: Global, calls: usize) -> Result<Recorder, AllocationError> {
         let mut told = Vec::new(alloc);
         for _ in 0..calls {
-            told.push(Told::nothing()).map_err(|_| "memory")?;
+            told.push(Told::nothing())?;
         }
         Ok(Recorder {
             count: AtomicUsize::new(0),
@@ -143,11 +143,11 @@ impl Gate for Recorder {
     }
 }
 
-fn tables_of(alloc: Global, words: &[u64]) -> Result<Vec<WordTable>, &'static str> {
+fn tables_of(alloc: Global, words: &[u64]) -> Result<Vec<WordTable>, AllocationError> {
     let mut tables = Vec::new(alloc);
     for word in words {
-        let table = WordTable::from_words(alloc, &[*word]).map_err(|_| "memory")?;
-        tables.push(table).map_err(|_| "memory")?;
+        let table = WordTable::from_words(alloc, &[*word])?;
+        tables.push(table)?;
     }
     Ok(tables)
 }
@@ -193,7 +193,7 @@ fn heard_two_and_one(gate: &Recorder) -> bool {
 fn insert_tells_its_gate(rt: HostRuntime) -> Result<(), Fail> {
     let alloc = rt.alloc();
     let gate = Recorder::new(alloc, 9)?;
-    let (registry, mut pass) = VtBtree::<5>::new(alloc).map_err(|_| "memory")?;
+    let (registry, mut pass) = VtBtree::<5>::new(alloc)?;
     assert!(rt; gets_number(&rt, alloc, &registry, &mut pass, &gate, (5, 4, 0)));
     assert!(rt; gets_number(&rt, alloc, &registry, &mut pass, &gate, (3, 8, 1)));
     assert!(rt; gets_number(&rt, alloc, &registry, &mut pass, &gate, (3, 6, 1)));
@@ -229,11 +229,7 @@ fn heard_pair(gate: &Recorder, worker: u64, place: u64, number: u64, next: u64) 
 fn heard_last(gate: &Recorder, number: u64) -> bool {
     gate.heard(
         2,
-        &[
-            Call::before(4),
-            Call::building(4),
-            Call::after(4, number),
-        ],
+        &[Call::before(4), Call::building(4), Call::after(4, number)],
     )
 }
 
@@ -243,10 +239,8 @@ fn workers_tell_their_gate(rt: HostRuntime) -> Result<(), Fail> {
     let alloc = rt.alloc();
     let tables = tables_of(alloc, &[5, 3, 9, 1, 7])?;
     let gate = Recorder::new(alloc, 60)?;
-    let (mut registry, mut pass) = VtBtree::<5>::new(alloc).map_err(|_| "memory")?;
-    let Ok(interned) = intern_all(&rt, alloc, &mut registry, &mut pass, &tables, 3, &gate) else {
-        return Err("memory")?;
-    };
+    let (mut registry, mut pass) = VtBtree::<5>::new(alloc)?;
+    let interned = intern_all(&rt, alloc, &mut registry, &mut pass, &tables, 3, &gate)?;
     let numbers = interned.numbers();
     assert!(rt; heard_pair(&gate, 0, 0, number_at(numbers, 0), number_at(numbers, 1)));
     assert!(rt; heard_pair(&gate, 1, 2, number_at(numbers, 2), number_at(numbers, 3)));
@@ -274,10 +268,8 @@ fn repeats_tell_their_gate(rt: HostRuntime) -> Result<(), Fail> {
     let alloc = rt.alloc();
     let tables = tables_of(alloc, &[5, 5])?;
     let gate = Recorder::new(alloc, 9)?;
-    let (mut registry, mut pass) = VtBtree::<5>::new(alloc).map_err(|_| "memory")?;
-    let Ok(_) = intern_all(&rt, alloc, &mut registry, &mut pass, &tables, 1, &gate) else {
-        return Err("memory")?;
-    };
+    let (mut registry, mut pass) = VtBtree::<5>::new(alloc)?;
+    let _ = intern_all(&rt, alloc, &mut registry, &mut pass, &tables, 1, &gate)?;
     assert!(rt; heard_twice(&gate));
     Ok(())
 }
