@@ -145,6 +145,19 @@ impl ListsWords for TwoWords {
 }
 
 #[test]
+fn equal_tables_get_one_number(rt: HostRuntime) -> Result<(), Fail> {
+    let alloc = rt.alloc();
+    let three = WordTable::from_words(alloc, &[3])?;
+    let five = WordTable::from_words(alloc, &[5])?;
+    let (registry, mut pass) = VtBtree::<5>::new(alloc)?;
+    assert!(rt; registry.insert(&rt, alloc, &mut pass, &five) == Ok(0));
+    assert!(rt; registry.insert(&rt, alloc, &mut pass, &three) == Ok(1));
+    assert!(rt; registry.insert(&rt, alloc, &mut pass, &five) == Ok(0));
+    assert!(rt; pass.added() == 2 && pass.seen() == 2);
+    Ok(())
+}
+
+#[test]
 fn insert_within(rt: HostRuntime) -> Result<(), Fail> {
     let alloc = rt.alloc();
     let five = WordTable::from_words(alloc, &[5])?;
