@@ -1,5 +1,5 @@
 -- What a call that was outrun some times says of its pass.
-use Rattle.std.proofs.Common.{◌≡◌, ℕ, ◌+◌, ◌-◌, ◌^◌, ◌<◌, ◌≤◌, List, [], ◌∷◌, ◌++◌, length, take, true, false, refl, sym, ap, ◌∙◌, subst, arith, append_assoc, take_at}
+use Rattle.std.proofs.Common.{◌≡◌, ℕ, ◌+◌, ◌-◌, ◌^◌, ◌<◌, ◌≤◌, List, [], ◌∷◌, ◌++◌, length, take, false, refl, sym, ap, ◌∙◌, subst, arith, append_assoc, take_at}
 use mathlib.Core.List.{IsPrefix}
 use Rattle.stabby_cell.specs.declared.chronicle.Chronicle.{Ghosts}
 use Rattle.stabby_cell.specs.declared.pass.Pass.{Pass}
@@ -9,7 +9,7 @@ use Rattle.stabby_cell.specs.Telling.{noted}
 use Rattle.stabby_cell.specs.Recording.{ViewAdvances, has_read, commits_in, misses_at}
 use Rattle.stabby_cell.specs.Visits.{Visited}
 use Rattle.stabby_cell.specs.Passes.{view_of, front_of, first_stamp_of, stamp_of, opening_stamp_of, IsPassOf, IsWhole, Advances, Looked, AddedNoCommit, Committed}
-use Rattle.stabby_cell.proofs.RecordLemmas.{advances_trans, commits_in-append, commits_in-misses_at, has_read-after}
+use Rattle.stabby_cell.proofs.RecordLemmas.{advances_trans, commits_in-append}
 use Rattle.stabby_cell.proofs.CallLemmas.{no_commit_looked, looked_looked}
 use Rattle.stabby_cell.proofs.VisitLemmas.{looked_visited}
 use Rattle.stabby_tables.specs.Tables.{Table}
@@ -17,7 +17,7 @@ use Rattle.stabby_tables.specs.Lists.{has, IsDistinct}
 use Rattle.stabby_registry.specs.declared.registry.VtBtree.{VtBtree}
 use Rattle.stabby_registry.specs.declared.fault.TryFault.{TryFault}
 use Rattle.stabby_registry.specs.declared.fault.TryFault.TheVariants.{Busy, Moved, Full, Memory}
-use Rattle.stabby_registry.specs.Inserts.{IsNumber, AddsTable, IsFull, HasMoved, ReadBoth, IsTryFault}
+use Rattle.stabby_registry.specs.Inserts.{IsNumber, AddsTable, IsFull, ReadBoth}
 use Rattle.stabby_registry.specs.Visits.{IsTriedFault}
 use Rattle.stabby_registry.specs.Within.{ReadFirst, WasOutrun, IsWithinFault}
 use Rattle.stabby_registry.specs.Tries.{IsOwnFault}
@@ -113,7 +113,7 @@ module _ {g : Ghosts (List Table) Table} where
         between = noted Release (stamp_of r) ∷ missed;
         other = noted Take (stamp_of q);
         after = noted Release (stamp_of q) ∷ [];
-        advances = subst (Advances p q) (append_assoc (Outrun.before o) (visit_at (stamp_of r)) (missed ++ visit_at (stamp_of q)))
+        advances = subst (Advances p q) (sym (append_assoc (Outrun.before o ++ visit_at (stamp_of r)) missed (visit_at (stamp_of q))) ∙ ap (λ l. l ++ visit_at (stamp_of q)) (append_assoc (Outrun.before o) (visit_at (stamp_of r)) missed))
             (advances_trans (view_of p) (view_of r) (view_of q) (Outrun.before o ++ visit_at (stamp_of r)) (missed ++ visit_at (stamp_of q)) (Outrun.advances o) (Visited.advances v));
         one_reads = refl;
         other_reads = refl;

@@ -1,4 +1,4 @@
-use Rattle.std.proofs.Common.{rules, ap, sym, subst, ◌∙◌, ◌≡◌, ◌<◌, IfOk}
+use Rattle.std.proofs.Common.{rules, ap, sym, subst, ◌∙◌, ◌≡◌, ◌<◌}
 use Rattle.stabby_tables.specs.Lists.{IsDistinct}
 use Rattle.stabby_cell.specs.Passes.{Looked, Committed, front_of, stamp_of}
 use Rattle.stabby_cell.specs.Turns.{GaveBack}
