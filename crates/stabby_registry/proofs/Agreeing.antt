@@ -1,9 +1,9 @@
 -- Numbers in a list and in a longer one.
-use Rattle.std.proofs.Common.{◌≡◌, ℕ, zero, suc, List, [], ◌∷◌, ◌++◌, refl, sym, ◌∙◌, subst, Option, Some, None, slice_get}
+use Rattle.std.proofs.Common.{◌≡◌, ℕ, zero, suc, List, [], ◌∷◌, ◌++◌, sym, ◌∙◌, subst}
 use mathlib.Core.List.{IsPrefix}
 use Rattle.std.proofs.lemmas.Option.{same_Some}
 use Rattle.stabby_tables.specs.Tables.{Table}
-use Rattle.stabby_tables.specs.Lists.{place, IsDistinct}
+use Rattle.stabby_tables.specs.Lists.{IsDistinct}
 use Rattle.stabby_tables.proofs.Distinctness.{place_is}
 use Rattle.stabby_registry.specs.Inserts.{IsNumber}
 use Rattle.stabby_registry.specs.Laws.{NumbersStay, CallersAgree}

@@ -8,6 +8,7 @@ pub mod Inserting
 pub mod Working
 pub mod Joining
 pub mod Trying
+pub mod Outrunning
 pub mod Paths
 pub mod Agreeing
 pub mod GoingOn

@@ -5,6 +5,7 @@ pub mod Interned
 pub mod Visits
 pub mod Work
 pub mod Tries
+pub mod Within
 pub mod Loans
 pub mod Laws
 pub mod TryVisits

@@ -4,6 +4,7 @@ ghost use Rattle.std.specs.Prelude.{◌≡◌, ◌<◌, ◌-◌, ◌^◌, ◌++�
 ghost use mathlib.Core.List.{IsPrefix};
 ghost use Rattle.stabby_tables.specs.Lists.{has, IsDistinct};
 ghost use Rattle.stabby_cell.specs.Passes.{front_of, stamp_of, Looked};
+ghost use Rattle.stabby_cell.specs.Visits.{Visited};
 
 use crate::catalog::{Catalog, Found};
 use crate::fault::RegistryFault;
@@ -86,6 +87,7 @@ impl<const SIZE: usize> VtBtree<SIZE> {
         requires { IsPassOf self.now pass.old }
         ensures pass { IsPassOf self.now pass.new }
         ensures looked { Looked pass.old pass.new }
+        ensures visited { Visited pass.old pass.new }
         ensures distinct { IsDistinct (front_of pass.new) }
         ensures found { IfOk result (HasFound (front_of pass.new) table.now) }
         ensures memory { IfErr result (λ error. error ≡ AllocationError.Memory) }

@@ -11,6 +11,7 @@ mod fault;
 mod gate;
 mod held;
 mod insert;
+mod insert_within;
 mod intern;
 pub mod laws;
 mod lists_words;

@@ -71,7 +71,7 @@ impl<const SIZE: usize> VtBtree<SIZE> {
 
     /// The number of the probe's table: its place in the front after; `None` exactly where it is absent.
     ///
-    /// The probe compares on one path of the version's tree, and without the turn. Its count is more than 64 times `SIZE - 1`
+    /// The probe compares on one path of the version's tree, and without the turn. Its count may be up to 64 times `SIZE - 1`
     /// below `u64::MAX`.
     ///
     /// # Errors

@@ -12,10 +12,10 @@ use std::thread::Threads;
 #[test]
 fn row_of_eight_words(rt: HostRuntime) -> Result<(), Fail> {
     let alloc = rt.alloc();
-    let one_two = WordTable::from_words(alloc, &[1, 2]).map_err(|_| "memory")?;
-    let empty = WordTable::from_words(alloc, &[]).map_err(|_| "memory")?;
-    let seven = WordTable::from_words(alloc, &[7]).map_err(|_| "memory")?;
-    let (row, mut pass) = VtVec::new(alloc, 8).map_err(|_| "memory")?;
+    let one_two = WordTable::from_words(alloc, &[1, 2])?;
+    let empty = WordTable::from_words(alloc, &[])?;
+    let seven = WordTable::from_words(alloc, &[7])?;
+    let (row, mut pass) = VtVec::new(alloc, 8)?;
     assert!(rt; row.insert_row(&mut pass, &one_two) == Ok(0));
     assert!(rt; row.insert_row(&mut pass, &empty) == Ok(1));
     let full = RowFull {
@@ -31,14 +31,14 @@ fn row_of_eight_words(rt: HostRuntime) -> Result<(), Fail> {
 #[test]
 fn entries_of_a_row(rt: HostRuntime) -> Result<(), Fail> {
     let alloc = rt.alloc();
-    let one_two = WordTable::from_words(alloc, &[1, 2]).map_err(|_| "memory")?;
-    let (row, mut pass) = VtVec::new(alloc, 8).map_err(|_| "memory")?;
+    let one_two = WordTable::from_words(alloc, &[1, 2])?;
+    let (row, mut pass) = VtVec::new(alloc, 8)?;
     assert!(rt; row.insert_row(&mut pass, &one_two) == Ok(0));
-    let Some(first) = row.entry(alloc, &mut pass, 0).map_err(|_| "memory")? else {
+    let Some(first) = row.entry(alloc, &mut pass, 0)? else {
         return Err("number 0 was given")?;
     };
     assert_eq!(rt; first.words(), &[1u64, 2][..]);
-    let second = row.entry(alloc, &mut pass, 1).map_err(|_| "memory")?;
+    let second = row.entry(alloc, &mut pass, 1)?;
     assert!(rt; second.is_none());
     Ok(())
 }
@@ -46,9 +46,9 @@ fn entries_of_a_row(rt: HostRuntime) -> Result<(), Fail> {
 #[test]
 fn registry_calls_on_a_row(rt: HostRuntime) -> Result<(), Fail> {
     let alloc = rt.alloc();
-    let one_two = WordTable::from_words(alloc, &[1, 2]).map_err(|_| "memory")?;
-    let seven = WordTable::from_words(alloc, &[7]).map_err(|_| "memory")?;
-    let (row, mut pass) = VtVec::new(alloc, 8).map_err(|_| "memory")?;
+    let one_two = WordTable::from_words(alloc, &[1, 2])?;
+    let seven = WordTable::from_words(alloc, &[7])?;
+    let (row, mut pass) = VtVec::new(alloc, 8)?;
     assert!(rt; row.insert(&rt, alloc, &mut pass, &seven) == Ok(0));
     assert!(rt; row.insert_typed(&rt, alloc, &mut pass, &one_two) == Ok(1));
     assert!(rt; row.insert(&rt, alloc, &mut pass, &seven) == Ok(0));
@@ -56,7 +56,7 @@ fn registry_calls_on_a_row(rt: HostRuntime) -> Result<(), Fail> {
         claimed: 7,
         needed: 2,
     };
-    let empty = WordTable::from_words(alloc, &[]).map_err(|_| "memory")?;
+    let empty = WordTable::from_words(alloc, &[])?;
     assert!(rt; row.insert(&rt, alloc, &mut pass, &empty) == Err(full));
     Ok(())
 }
@@ -108,9 +108,9 @@ fn insert_in_two<R: Threads + Sync>(
 #[test]
 fn two_callers_of_a_row(rt: HostRuntime) -> Result<(), Fail> {
     let alloc = rt.alloc();
-    let one = WordTable::from_words(alloc, &[1]).map_err(|_| "memory")?;
-    let two = WordTable::from_words(alloc, &[2]).map_err(|_| "memory")?;
-    let (row, pass) = VtVec::new(alloc, 20).map_err(|_| "memory")?;
+    let one = WordTable::from_words(alloc, &[1])?;
+    let two = WordTable::from_words(alloc, &[2])?;
+    let (row, pass) = VtVec::new(alloc, 20)?;
     let (pass, forward, backward) = insert_in_two(&rt, &row, pass, &one, &two);
     assert!(rt; pass.is_whole() && pass.seen() == 2);
     assert!(rt; forward[0].is_some() && forward[0] == backward[1]);
