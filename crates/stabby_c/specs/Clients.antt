@@ -34,7 +34,7 @@ IsAlone c = weight_of c ≡ 2 ^ 32
 
 -- the one client of a new registry
 pub record IsNewClient (number : ℕ) (c : Client) : Type 0 where
-  pub number : number_of c ≡ number
+  pub named : number_of c ≡ number
   pub opening : pass.IsOpening (home_of c).registry c.pass
 
 -- the weight k was cut off c: d is what is left of it, and part the new client of the same registry
@@ -95,6 +95,6 @@ ReadFault c d fault = IsReadFault c.pass d.pass fault
 -- `after` is `before` with the words of the table with this number in front, as many as there is room for; it has n words
 pub record HasCopied (front : List Table) (number : ℕ) (before after : List ℕ) (n : ℕ) : Type 0 where
   pub table : Table
-  pub number : IsNumber front table number
+  pub is_number : IsNumber front table number
   pub words : n ≡ length table
   pub copied : after ≡ take (length before) table ++ drop n before

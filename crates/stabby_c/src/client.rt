@@ -99,7 +99,7 @@ impl Client {
     /// Puts another client of the same registry into this one.
     pub fn join(&mut self, other: Client)
         requires same { home_of self.old ≡ home_of other }
-        ensures { JoinsClient self.old other.entry self.new }
+        ensures { JoinsClient self.old other self.new }
     {
         let Client { home: _, pass } = other;
         self.home.registry.join(&mut self.pass, pass);

@@ -64,8 +64,8 @@ pub extern "C" fn stabby_client_split(
 #[unsafe(no_mangle)]
 pub extern "C" fn stabby_client_join(client: &mut Handle, other: Handle) -> u32
     requires { TellsApart client.old.value other.value }
-    ensures joined { result ≡ 0 → JoinsClient client.old.value other.entry.value client.new.value }
-    ensures foreign { (result ≡ 6) ↔ IsForeign client.old.value other.entry.value }
+    ensures joined { result ≡ 0 → JoinsClient client.old.value other.value client.new.value }
+    ensures foreign { (result ≡ 6) ↔ IsForeign client.old.value other.value }
     ensures unchanged { result ≢ 0 → (result ≡ 6) × (client.new.value ≡ client.old.value) }
 {
     let mut other = other;
