@@ -4,7 +4,7 @@ use mathlib.Core.List.{IsPrefix}
 use mathlib.Core.Logic.{dite}
 use native.Mathlib.Decide.{ℕ_discrete}
 use Rattle.std.specs.List.{sum}
-use Rattle.std.specs.Prelude.{slice_set}
+use Rattle.std.specs.Prelude.{slice_set, slice_range}
 use Rattle.std.proofs.lemmas.List.{get_or-set_same, get_or-set_other}
 use Rattle.std.proofs.lemmas.List.Sums.{sum_by_more, sum_by_more_le}
 use Rattle.stabby_tables.specs.Tables.{Table}
@@ -31,3 +31,9 @@ numbered_more front later words ls numbers n number p so room at i below = dite 
     (λ e. subst (λ j. IsNumber later (table_at words ls j) (slice_index (slice_set numbers n number) j)) (sym e)
       (subst (IsNumber later (table_at words ls n)) (sym (get_or-set_same numbers n number 0 room)) at))
     (λ ne. subst (IsNumber later (table_at words ls i)) (sym (get_or-set_other numbers n i number 0 ne)) (numbered_later front later words ls numbers n p so i (omega (arith, below, ne))))
+
+-- the words that a batch goes to are those of its next table
+pub next_table : (words ls : List ℕ) (i from : ℕ) → from ≡ sum (take i ls) → slice_range words from (from + slice_index ls i) ≡ table_at words ls i
+next_table words ls i from e =
+    let long : (from + slice_index ls i) - from ≡ slice_index ls i = omega arith in
+    ap (λ m. take m (drop from words)) long ∙ ap (λ f. take (slice_index ls i) (drop f words)) e

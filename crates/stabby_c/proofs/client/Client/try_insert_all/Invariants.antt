@@ -3,7 +3,7 @@ use mathlib.Core.List.{IsPrefix}
 use Rattle.std.specs.List.{sum}
 use Rattle.stabby_c.specs.Clients.{home_of, front_of}
 use Rattle.stabby_c.specs.Batches.{AreNumbered}
-use Rattle.stabby_c.proofs.batch.Client.try_insert_all.Given as goal
+use Rattle.stabby_c.proofs.client.Client.try_insert_all.Given as goal
 
 abbrev pub invariant-loop-at : goal.invariant-loop-at
 invariant-loop-at l = record {
