@@ -22,7 +22,6 @@ use Rattle.std.proofs.option.Option.TheSendSync as option
 use Rattle.std.proofs.marker.PhantomData.TheSendSync as phantom
 use Rattle.stabby_tree.proofs.few.Few.TheSendSync as few
 use Rattle.stabby_tree.proofs.node.Item.TheSendSync as item
-use Rattle.stabby_tree.proofs.node.SplitAt.TheSendSync as split
 use Rattle.stabby_tree.proofs.node.Node.TheLaws.TheKnot as knot
 use Rattle.stabby_registry.proofs.numbered.Numbered.TheSendSync as numbered
 use Rattle.stabby_cell.proofs.cell.TurnCell.TheSendSync as cell

@@ -1,5 +1,5 @@
 -- What a code says that C gets.
-use Rattle.std.specs.Prelude.{◌≡◌, ◌≢◌, ◌↔◌, ℕ, ◌+◌, ◌<◌, ◌≤◌, true, List, length, Result, Ok, Err, Option, MatchOption, IfOk, IfErr, OnOk}
+use Rattle.std.specs.Prelude.{◌≡◌, ◌≢◌, ◌↔◌, ℕ, ◌+◌, ◌<◌, ◌≤◌, true, List, length, Result, Option, MatchOption, IfOk, IfErr, OnOk}
 use mathlib.Core.List.{IsPrefix}
 use Rattle.stabby_cell.specs.declared.fault.CellFault.{CellFault}
 use Rattle.stabby_tables.specs.Tables.{Table}
