@@ -29,7 +29,7 @@ pub numbered_more : (front later : List Table) (words ls numbers : List ℕ) (n 
     → IsNumber later (table_at words ls n) number → AreNumbered later words ls (slice_set numbers n number) (n + 1)
 numbered_more front later words ls numbers n number p so room at i below = dite (ℕ_discrete i n)
     (λ e. subst (λ j. IsNumber later (table_at words ls j) (slice_index (slice_set numbers n number) j)) (sym e)
-      (subst (IsNumber later (table_at words ls n)) (sym (get_or-set_same numbers n number 0 room)) at))
+    (subst (IsNumber later (table_at words ls n)) (sym (get_or-set_same numbers n number 0 room)) at))
     (λ ne. subst (IsNumber later (table_at words ls i)) (sym (get_or-set_other numbers n i number 0 ne)) (numbered_later front later words ls numbers n p so i (omega (arith, below, ne))))
 
 -- the words that a batch goes to are those of its next table

@@ -92,8 +92,7 @@ impl Client {
     pub fn is_foreign(&self, other: &Client) -> bool
         ensures { IsTrue result ↔ IsForeign self.now other.now }
     {
-        self.home.number != other.home.number
-            || WHOLE - self.pass.weight() < other.pass.weight()
+        self.home.number != other.home.number || WHOLE - self.pass.weight() < other.pass.weight()
     }
 
     /// Puts another client of the same registry into this one.

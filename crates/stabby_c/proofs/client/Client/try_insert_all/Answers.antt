@@ -12,22 +12,24 @@ pub returns-in-Err-clause-numbers : goal.returns-in-Err-clause-numbers
 returns-in-Err-clause-numbers c =
     let so = c.loop-at.invariant in
     subst (λ n. AreNumbered (front_of c.try_insert.new.self) c.args.words.now c.args.lengths.now c.loop-at.numbers n) (sym so.done)
-      (numbered_later (front_of c.loop-at.self) (front_of c.try_insert.new.self) c.args.words.now c.args.lengths.now c.loop-at.numbers c.loop-at.at c.in-Err.ensures.front so.numbered)
+    (numbered_later (front_of c.loop-at.self) (front_of c.try_insert.new.self) c.args.words.now c.args.lengths.now c.loop-at.numbers c.loop-at.at c.in-Err.ensures.front so.numbered)
 
 -- and that one
 pub returns-in-Err-clause-stopped : goal.returns-in-Err-clause-stopped
 returns-in-Err-clause-stopped c _ _ =
     let so = c.loop-at.invariant in
     let table : slice_range c.args.words.now c.loop-at.from (c.loop-at.from + slice_index c.args.lengths.now c.loop-at.at) ≡ table_at c.args.words.now c.args.lengths.now c.loop-at.done =
-        next_table c.args.words.now c.args.lengths.now c.loop-at.at c.loop-at.from so.from ∙ ap (table_at c.args.words.now c.args.lengths.now) (sym so.done) in
-    (omega (arith, so.done, c.loop-at-test.true), record {
-      fault = c.in-Err.fault;
-      answer_is = c.from.ensures;
-      before = c.loop-at.self;
-      from = so.same;
-      grown = so.front;
-      refused = subst (λ t. InsertFault c.loop-at.self c.try_insert.new.self t c.in-Err.fault) table c.in-Err.ensures.refused;
-    })
+    next_table c.args.words.now c.args.lengths.now c.loop-at.at c.loop-at.from so.from ∙ ap (table_at c.args.words.now c.args.lengths.now) (sym so.done) in (
+      omega (arith, so.done, c.loop-at-test.true),
+      record {
+        fault = c.in-Err.fault;
+        answer_is = c.from.ensures;
+        before = c.loop-at.self;
+        from = so.same;
+        grown = so.front;
+        refused = subst (λ t. InsertFault c.loop-at.self c.try_insert.new.self t c.in-Err.fault) table c.in-Err.ensures.refused;
+      },
+    )
 
 pub loop-at-preserved : goal.loop-at-preserved
 loop-at-preserved c =
