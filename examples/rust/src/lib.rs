@@ -106,7 +106,9 @@ impl Client {
 
     /// The owner of a client that a call has just handed out.
     fn owner(out: *mut Opaque) -> Client {
-        Client(Raw { at: NonNull::new(out).expect("an answer DONE comes with an address") })
+        Client(Raw {
+            at: NonNull::new(out).expect("an answer DONE comes with an address"),
+        })
     }
 
     /// A further client of the same registry, with this weight, which comes off this one's.
@@ -149,7 +151,9 @@ impl Client {
     pub fn try_insert(&mut self, words: &[u64]) -> Result<u64, Fault> {
         let mut number = 0;
         // SAFETY: the client is alive, and this call has it alone. `words` is read, `number` may be written.
-        told(unsafe { raw::stabby_client_try_insert(&mut self.0, words.as_ptr(), words.len(), &mut number) })?;
+        told(unsafe {
+            raw::stabby_client_try_insert(&mut self.0, words.as_ptr(), words.len(), &mut number)
+        })?;
         Ok(number)
     }
 
@@ -172,7 +176,11 @@ impl Client {
     /// `Memory`, `Full`. The tables before that one may have been added, each once.
     pub fn insert_all<T: AsRef<[u64]>>(&mut self, tables: &[T]) -> Result<Vec<u64>, Fault> {
         let lengths: Vec<usize> = tables.iter().map(|table| table.as_ref().len()).collect();
-        let words: Vec<u64> = tables.iter().flat_map(|table| table.as_ref()).copied().collect();
+        let words: Vec<u64> = tables
+            .iter()
+            .flat_map(|table| table.as_ref())
+            .copied()
+            .collect();
         let mut numbers = vec![0; tables.len()];
         let (mut gone, mut from) = (0, 0);
         loop {
@@ -219,7 +227,13 @@ impl Client {
             let mut length = 0;
             // SAFETY: the client is alive, and this call has it alone. `words` and `length` may be written.
             told(unsafe {
-                raw::stabby_client_try_entry(&mut self.0, number, words.as_mut_ptr(), words.len(), &mut length)
+                raw::stabby_client_try_entry(
+                    &mut self.0,
+                    number,
+                    words.as_mut_ptr(),
+                    words.len(),
+                    &mut length,
+                )
             })?;
             let fits = length <= words.len();
             words.resize(length, 0);

@@ -29,7 +29,12 @@ extern "C" {
     pub fn stabby_client_weight(client: *mut Raw) -> u64;
     pub fn stabby_client_join(client: *mut Raw, other: Raw) -> u32;
     pub fn stabby_client_free(client: Raw);
-    pub fn stabby_client_try_insert(client: *mut Raw, words: *const u64, len: usize, number: *mut u64) -> u32;
+    pub fn stabby_client_try_insert(
+        client: *mut Raw,
+        words: *const u64,
+        len: usize,
+        number: *mut u64,
+    ) -> u32;
     pub fn stabby_client_try_insert_all(
         client: *mut Raw,
         words: *const u64,

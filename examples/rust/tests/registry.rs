@@ -1,8 +1,8 @@
 //! The registry through its safe face, on one thread and on two.
 
+use stabby_registry::{Client, Fault};
 use std::collections::HashMap;
 use std::thread;
-use stabby_registry::{Client, Fault};
 
 #[test]
 fn equal_tables_have_one_number() {
@@ -11,7 +11,10 @@ fn equal_tables_have_one_number() {
     assert_eq!(one.insert(&[1, 2]), Ok(0));
     assert_eq!(other.insert(&[]), Ok(1));
     assert_eq!(other.insert(&[1, 2]), Ok(0));
-    assert_eq!(one.insert_all(&[vec![3], vec![], vec![1, 2], vec![3]]), Ok(vec![2, 1, 0, 2]));
+    assert_eq!(
+        one.insert_all(&[vec![3], vec![], vec![1, 2], vec![3]]),
+        Ok(vec![2, 1, 0, 2])
+    );
     assert_eq!(one.insert_all::<Vec<u64>>(&[]), Ok(vec![]));
     assert_eq!((one.count(), other.count()), (3, 3));
 }
@@ -60,7 +63,9 @@ fn the_registry_lives_as_long_as_a_client() {
 
 fn work(client: &mut Client, first: u64) -> Vec<(Vec<u64>, u64)> {
     let table = |i: u64| vec![(i * 11 + first) % 700, 7, i % 2];
-    (0..20_000).map(|i| (table(i), client.insert(&table(i)).unwrap())).collect()
+    (0..20_000)
+        .map(|i| (table(i), client.insert(&table(i)).unwrap()))
+        .collect()
 }
 
 #[test]
