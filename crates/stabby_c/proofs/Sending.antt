@@ -53,16 +53,16 @@ module _ (T A P : RattleType) (g : allocator.Ghosts A.Denot) (l : limit.Ghosts P
 
 module _ (T A R L K : RattleType) (k : keyed.Ghosts T.Denot K.Denot) (o : ord.Ghosts K.Denot) (e : eq.Ghosts K.Denot) (p : partial.Ghosts K.Denot) (g : allocator.Ghosts A.Denot) where
   set_field_send : IsSend T → IsSync T → IsSend A → IsSync A → Frees {D = A.Denot} {G = allocator.Ghosts A.Denot} g g.dealloc_token → IsSend (Set.the_field T A R L K k o e p g).row
-  set_field_send s y sa ya f = search (sendable, node_send, node_sync, arc.the_send, option.the_send) depth 20
+  set_field_send s y sa ya f = search (sendable, node_send, node_sync, arc.the_send) depth 20
 
   set_field_sync : IsSend T → IsSync T → IsSend A → IsSync A → Frees {D = A.Denot} {G = allocator.Ghosts A.Denot} g g.dealloc_token → IsSync (Set.the_field T A R L K k o e p g).row
-  set_field_sync s y sa ya f = search (sendable, node_send, node_sync, arc.the_sync, option.the_sync) depth 20
+  set_field_sync s y sa ya f = search (sendable, node_send, node_sync, arc.the_sync) depth 20
 
   set_send : IsSend T → IsSync T → IsSend A → IsSync A → Frees {D = A.Denot} {G = allocator.Ghosts A.Denot} g g.dealloc_token → IsSend (Set.the_row T A R L K k o e p g)
-  set_send s y sa ya f = search (sendable, node_send, node_sync, arc.the_send, option.the_send) depth 20
+  set_send s y sa ya f = search (sendable, node_send, node_sync, arc.the_send) depth 20
 
   set_sync : IsSend T → IsSync T → IsSend A → IsSync A → Frees {D = A.Denot} {G = allocator.Ghosts A.Denot} g g.dealloc_token → IsSync (Set.the_row T A R L K k o e p g)
-  set_sync s y sa ya f = search (sendable, node_send, node_sync, arc.the_sync, option.the_sync) depth 20
+  set_sync s y sa ya f = search (sendable, node_send, node_sync, arc.the_sync) depth 20
 
 ruleset of_catalog = (sendable, blocks.the_frees, set_field_send, set_field_sync, set_send, set_sync, global.the_send, global.the_sync, numbered.the_send, numbered.the_sync)
 

@@ -156,11 +156,15 @@ impl Client {
     }
 }
 
-fn crosses<T: Send>(value: T) -> T {
+fn crosses<T: Send>(value: T) -> T
+    ensures { result ≡ value }
+{
     value
 }
 
 // A client may go to another thread.
-pub fn sent(client: Client) -> Client {
+pub fn sent(client: Client) -> Client
+    ensures { result ≡ client }
+{
     crosses(client)
 }

@@ -3,6 +3,7 @@
 ghost use Rattle.std.specs.Prelude.{◌≡◌, ◌≢◌, ◌↔◌, length};
 ghost use mathlib.Core.List.{IsPrefix};
 ghost use Rattle.stabby_c.specs.Clients.{home_of, front_of, weight_of, TellsApart, IsForeign, JoinsClient};
+ghost use Rattle.stabby_c.specs.Handles.{IsAddress};
 ghost use Rattle.stabby_c.specs.Answers.{SplitsHandle, TriedInsert, TriedAll, TriedEntry};
 
 use crate::answer::Answer;
@@ -11,7 +12,9 @@ use crate::handle::{Handle, Loose, Opaque};
 use std::alloc::Global;
 
 // The address of a client that C holds from now on.
-fn hand_out(client: Box<Client, Global>) -> *mut Opaque {
+fn hand_out(client: Box<Client, Global>) -> *mut Opaque
+    ensures { IsAddress result }
+{
     Handle::address_of(Loose::of(client))
 }
 
@@ -29,6 +32,7 @@ fn let_be(client: Handle) {
 
 #[unsafe(no_mangle)]
 pub extern "C" fn stabby_client_new(alloc: Global, number: u64, out: &mut *mut Opaque) -> u32
+    ensures written { result ≡ 0 → IsAddress out.new }
     ensures unchanged { result ≢ 0 → (result ≡ 1) × (out.new ≡ out.old) }
 {
     match Client::new(alloc, number) {
@@ -50,6 +54,7 @@ pub extern "C" fn stabby_client_split(
     ensures same { home_of client.new.value ≡ home_of client.old.value }
     ensures front { IsPrefix (front_of client.old.value) (front_of client.new.value) }
     ensures split { SplitsHandle client.old.value client.new.value weight result }
+    ensures written { result ≡ 0 → IsAddress out.new }
     ensures unchanged { result ≢ 0 → out.new ≡ out.old }
 {
     match client.client().split(alloc, weight) {
