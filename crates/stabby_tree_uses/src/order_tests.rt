@@ -1,0 +1,44 @@
+//! A set over keys whose order is reversed.
+
+ghost use Rattle.std.specs.Prelude.{◌≡◌};
+
+use stabby_tree::{ArcBTreeSet, Keyed};
+use std::alloc::Global;
+use std::cmp::Reverse;
+use std::test::Fail;
+
+// A number whose key falls as the number rises.
+#[derive(Clone, Copy)]
+struct Falling {
+    key: Reverse<u64>,
+}
+
+impl Keyed for Falling {
+    type Key = Reverse<u64>;
+
+    ghost key_of = { λ x. x.key };
+
+    fn key(&self) -> &Reverse<u64> {
+        &self.key
+    }
+}
+
+#[test]
+fn reversed_keys(rt: HostRuntime) -> Result<(), Fail> {
+    let alloc = rt.alloc();
+    let mut set = ArcBTreeSet::<Falling, Global, 0, 3>::from_alloc(alloc);
+    for number in 1..6u64 {
+        let value = Falling {
+            key: Reverse(number),
+        };
+        assert!(rt; matches!(set.insert(value), Ok(None)));
+    }
+    let list = set.to_list(alloc)?;
+    assert_eq!(rt; list.len(), 5);
+    for (i, value) in list.iter().enumerate() {
+        assert_eq!(rt; value.key.0, 5 - i as u64);
+    }
+    assert!(rt; set.get(&Reverse(4)).is_some());
+    assert!(rt; set.get(&Reverse(6)).is_none());
+    Ok(())
+}
