@@ -4,7 +4,7 @@
 
 mod counts;
 #[cfg(test)]
-mod order_tests;
+mod hostile_tests;
 #[cfg(test)]
 mod random_tests;
 #[cfg(test)]
