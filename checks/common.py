@@ -1,5 +1,6 @@
 """What the checks share: the program, runs of it, what it is to answer, and a count of what was tried."""
 import atexit
+import glob
 import os
 import re
 import shutil
@@ -145,6 +146,21 @@ def generated(count, divisor):
     tables = [(7 * i % divisor, i % divisor) for i in range(count)]
     place = {table: at for at, table in enumerate(sorted(set(tables)))}
     return b"tables %d\ndistinct %d\nranksum %d\n" % (count, len(place), sum(place[table] for table in tables))
+
+
+def tests():
+    """Each test of the tests that are built: its name, and the words that run it. A copy is run, which no build changes."""
+    for made in sorted(glob.glob(f"{BUILT}/crates/*/out/*_tests")):
+        copy = f"{WORK}/{os.path.basename(made)}"
+        try:
+            shutil.copy(made, copy)
+        except OSError:
+            continue
+        for line in run([copy, "--list"]).out.decode().split("\n"):
+            if line.endswith(": test"):
+                test = line[: -len(": test")]
+                yield f"{os.path.basename(made)} {test}", [copy, test]
+        os.unlink(copy)
 
 
 def shim():
