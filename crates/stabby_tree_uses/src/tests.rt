@@ -23,7 +23,7 @@ fn many_inserts_counted(rt: HostRuntime) -> Result<(), Fail> {
     let alloc = rt.alloc();
     let mut set = hundred(alloc)?;
     assert_eq!(rt; set.len(), 100);
-    let copy = set.clone().map_err(|_| "memory")?;
+    let copy = set.clone()?;
     let mut copier = CloneCopier::new();
     assert!(rt; matches!(set.insert_counted(&mut copier, 100), Ok(None)));
     let count = copier.count();
@@ -41,7 +41,7 @@ fn elements_in_order(rt: HostRuntime) -> Result<(), Fail> {
     let mut sum = 0u64;
     set.for_each(|x| sum = sum.wrapping_add(*x));
     assert_eq!(rt; sum, 4950);
-    let list = set.to_list(alloc).map_err(|_| "memory")?;
+    let list = set.to_list(alloc)?;
     assert_eq!(rt; list.len(), 100);
     for (i, x) in list.iter().enumerate() {
         assert_eq!(rt; **x, i as u64);
@@ -62,7 +62,7 @@ fn printed_tree(rt: HostRuntime) -> Result<(), Fail> {
     let mut small = ArcBTreeSet::<u64, Global, 0, 3>::from_alloc(alloc);
     small.insert(1).map_err(|_| "memory")?;
     small.insert(2).map_err(|_| "memory")?;
-    let copy = small.clone().map_err(|_| "memory")?;
+    let copy = small.clone()?;
     small.insert(3).map_err(|_| "memory")?;
     assert!(rt; format!(in alloc; "{small:?}")?.as_str() == "ArcBTreeSet{{1}, 2, {3}}");
     assert!(rt; format!(in alloc; "{copy:?}")?.as_str() == "ArcBTreeSet{1, 2}");
@@ -120,7 +120,7 @@ fn counted_lookups(rt: HostRuntime) -> Result<(), Fail> {
     assert!(rt; probe.count() <= 8);
     let mut absent = KeyProbe::new(9u64);
     assert!(rt; set.get_counted(&mut absent).is_none());
-    let list = set.to_list(alloc).map_err(|_| "memory")?;
+    let list = set.to_list(alloc)?;
     for (i, x) in list.iter().enumerate() {
         assert_eq!(rt; **x, i as u64 + 1);
     }
@@ -134,12 +134,12 @@ fn map_replaces(rt: HostRuntime) -> Result<(), Fail> {
     for key in 0..100u64 {
         assert!(rt; matches!(map.insert(37 * key % 100, key), Ok(None)));
     }
-    let copy = map.clone().map_err(|_| "memory")?;
+    let copy = map.clone()?;
     assert!(rt; matches!(map.insert(37, 500), Ok(Some(1))));
     assert_eq!(rt; map.get(&37).copied(), Some(500));
     assert_eq!(rt; copy.get(&37).copied(), Some(1));
     assert!(rt; map.get(&100).is_none());
-    let list = copy.to_list(alloc).map_err(|_| "memory")?;
+    let list = copy.to_list(alloc)?;
     assert_eq!(rt; list.len(), 100);
     for (i, entry) in list.iter().enumerate() {
         assert_eq!(rt; *entry.key(), i as u64);
