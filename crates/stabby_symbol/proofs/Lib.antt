@@ -1,2 +1,4 @@
 pub mod Bytes
 pub mod PackedTexts
+pub mod WordSpans
+pub mod Symbols

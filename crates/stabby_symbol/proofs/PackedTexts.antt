@@ -220,10 +220,10 @@ packed_if s ws t small n is bytes z =
     let d = length-drop s (bytes_in ws) in
     let k : length (drop s (bytes_in ws)) ≡ 8 * length ws - length t = omega arith in
     let whole : bytes_in ws ≡ t ++ zeros (8 * length ws - length t) =
-        sym (take-append-drop s (bytes_in ws)) ∙ (λ i. sym is i ++ (all_zeros (drop s (bytes_in ws)) z ∙ ap zeros k) i) in
+    sym (take-append-drop s (bytes_in ws)) ∙ (λ i. sym is i ++ (all_zeros (drop s (bytes_in ws)) z ∙ ap zeros k) i) in
     let b = bytes_words (length ws) t bytes (omega arith) in
     let same : ws ≡ words_of (length ws) t =
-        sym (words_back ws small) ∙ ap (words_of (length ws)) (whole ∙ sym b) ∙ words_round (length ws) t bytes in
+    sym (words_back ws small) ∙ ap (words_of (length ws)) (whole ∙ sym b) ∙ words_round (length ws) t bytes in
     let many : length ws ≡ words_for (length t) = n ∙ ap words_for (sym lt) in
     λ i. sym lt i ∷ (same ∙ ap (λ (m : ℕ). words_of m t) many) i
 

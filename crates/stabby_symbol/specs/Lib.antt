@@ -1,3 +1,5 @@
 pub mod Packed
 pub mod Unpacked
+pub mod Symbols
+pub mod Words
 pub mod Laws

@@ -17,8 +17,8 @@ unpack_fault [] = Some NoLength
 unpack_fault (stated ∷ words) =
     if eqb (length words) (words_for stated)
     then (if all_zero (drop stated (bytes_in words))
-        then (if is_utf8 (take stated (bytes_in words)) then None else Some Utf8)
-        else Some Padding)
+    then (if is_utf8 (take stated (bytes_in words)) then None else Some Utf8)
+    else Some Padding)
     else Some (Length stated (length words))
 
 -- the table is the text's

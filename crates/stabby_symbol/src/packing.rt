@@ -1,7 +1,9 @@
 //! A text as a table of words.
-ghost use Rattle.std.specs.Prelude.{◌≡◌, ◌≤◌, ◌++◌, ◌-◌, IfOk, OnOk, length, replicate};
+ghost use Rattle.std.specs.Prelude.{◌≡◌, ◌≤◌, ◌++◌, ◌-◌, IfOk, IfErr, OnOk, length, replicate};
 ghost use Rattle.stabby_symbol.specs.Packed.{word_of, words_of, words_for, packed};
 
+use stabby_layout::AllocationError;
+use stabby_registry::WordTable;
 use std::alloc::{AllocError, Global};
 
 // At most eight bytes, and zeros after them.
@@ -36,7 +38,7 @@ fn put_words(out: &mut Vec<u64>, bytes: &[u8]) -> Result<(), AllocError>
 }
 
 // The words of the table of a text.
-pub fn pack_words(alloc: Global, text: &str) -> Result<Vec<u64>, AllocError>
+fn pack_words(alloc: Global, text: &str) -> Result<Vec<u64>, AllocError>
     ensures { IfOk result (λ words. words.items ≡ packed text.now) }
 {
     let bytes = text.as_bytes();
@@ -44,4 +46,16 @@ pub fn pack_words(alloc: Global, text: &str) -> Result<Vec<u64>, AllocError>
     words.push(bytes.len() as u64)?;
     put_words(&mut words, bytes)?;
     Ok(words)
+}
+
+/// The text's table: its length in bytes, and then its bytes, eight a word, the first lowest.
+///
+/// # Errors
+/// `Memory`, where the table finds none.
+pub fn pack(alloc: Global, text: &str) -> Result<WordTable, AllocationError>
+    ensures ok { IfOk result (λ table. table ≡ packed text.now) }
+    ensures memory { IfErr result (λ error. error ≡ AllocationError.Memory) }
+{
+    let words = pack_words(alloc, text)?;
+    Ok(WordTable::from_vec(words))
 }

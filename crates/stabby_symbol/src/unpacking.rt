@@ -6,6 +6,7 @@ ghost use Rattle.stabby_symbol.specs.Unpacked.{all_zero, unpack_fault, IsUnpacke
 ghost use Rattle.stabby_symbol.specs.declared.unpacking.UnpackFault.TheVariants.{Memory};
 
 use stabby_layout::{AllocationError, Text};
+use stabby_registry::WordTable;
 use std::alloc::{AllocError, Global};
 
 /// Why a table is no packed text.
@@ -80,7 +81,7 @@ fn text_in(alloc: Global, stated: u64, words: &[u64]) -> Result<Text, UnpackFaul
 }
 
 // The text of a table of these words.
-pub fn unpack_words(alloc: Global, words: &[u64]) -> Result<Text, UnpackFault>
+fn unpack_words(alloc: Global, words: &[u64]) -> Result<Text, UnpackFault>
     ensures ok { IfOk result (IsUnpacked words.now) }
     ensures complete { (text : List ℕ) → IsUtf8 text → words.now ≡ packed text
         → MatchResult result (λ found. found ≡ text) (λ fault. fault ≡ Memory) }
@@ -90,4 +91,19 @@ pub fn unpack_words(alloc: Global, words: &[u64]) -> Result<Text, UnpackFault>
         return Err(UnpackFault::NoLength);
     };
     text_in(alloc, *stated, words)
+}
+
+/// The text whose table it is.
+///
+/// # Errors
+/// The first that speaks against the table: `NoLength` exactly where it is empty; `Length` exactly where the first word isn't
+/// the length of a text in so many words; `Padding` exactly where a byte past the length isn't zero; `Utf8` exactly where the
+/// bytes aren't UTF-8. Where memory is wanting, `Memory` may come in place of the last two.
+pub fn unpack(alloc: Global, table: &WordTable) -> Result<Text, UnpackFault>
+    ensures ok { IfOk result (IsUnpacked table.now) }
+    ensures complete { (text : List ℕ) → IsUtf8 text → table.now ≡ packed text
+        → MatchResult result (λ found. found ≡ text) (λ fault. fault ≡ Memory) }
+    ensures cause { TellsCause (unpack_fault table.now) result }
+{
+    unpack_words(alloc, table.words())
 }
