@@ -4,13 +4,15 @@
 //! table.
 #![tactic(auto)]
 
+mod index;
 mod interning;
 pub mod laws;
 mod packing;
 mod unpacking;
 mod words;
 
+pub use index::{IndexedWord, WordIndex, index_words};
 pub use interning::{SymbolFault, intern_text, text_of, try_intern_text};
 pub use packing::pack;
 pub use unpacking::{UnpackFault, unpack};
-pub use words::{Span, word_spans};
+pub use words::Span;

@@ -51,7 +51,7 @@ fn word_end(bytes: &[u8], from: usize) -> usize
 }
 
 // The spans of the words, in increasing order.
-pub fn word_spans(alloc: Global, bytes: &[u8]) -> Result<Vec<Span>, AllocError>
+pub(crate) fn word_spans(alloc: Global, bytes: &[u8]) -> Result<Vec<Span>, AllocError>
     ensures spans { IfOk result (λ spans. AreWordSpans bytes.now spans.items) }
     ensures few { IfOk result (λ spans. length spans.items ≤ length bytes.now) }
 {
