@@ -2,3 +2,4 @@ pub mod Bytes
 pub mod PackedTexts
 pub mod WordSpans
 pub mod Symbols
+pub mod Indexing

@@ -1,10 +1,10 @@
 //! The words of a source under their numbers.
-ghost use Rattle.std.specs.Prelude.{◌≡◌, ◌≤◌, ◌<◌, ◌+◌, ◌-◌, ◌^◌, ℕ, List, length, map, Some, if◌then◌else◌, IfOk, IfErr, OnOk, OnErr};
+ghost use Rattle.std.specs.Prelude.{◌≡◌, ◌≤◌, ◌<◌, ◌+◌, ◌-◌, ◌^◌, ◌⊎◌, ℕ, List, length, map, Some, None, if◌then◌else◌, IfOk, IfErr, OnOk, OnErr};
 ghost use Rattle.std.specs.List.{All};
 ghost use Rattle.std.specs.Ordering.{nat_cmp};
 ghost use Rattle.std.specs.Cmp.Lexicographic.{slice_cmp};
 ghost use Rattle.std.specs.Str.{bytes_eq};
-ghost use Rattle.std.specs.BTreeMap.{get_by};
+ghost use Rattle.std.specs.BTreeMap.{get_by, values, IsOrdered};
 ghost use Rattle.stabby_registry.specs.Passes.{IsPassOf, IsWhole, GoesOn, front_of};
 ghost use Rattle.stabby_symbol.specs.Words.{IsWordSpan, word_at};
 ghost use Rattle.stabby_symbol.specs.Index.{IsIndexOf, AppendsWords, AppendsSomeWords, tables_at, spans_of, entry_at, with_span};
@@ -94,7 +94,11 @@ fn word_at(source: &[u8], span: Span) -> &str
 }
 
 // The tables of the words at the spans.
-fn tables_of(alloc: Global, source: &[u8], spans: &[Span]) -> Result<Vec<WordTable>, AllocationError>
+fn tables_of(
+    alloc: Global,
+    source: &[u8],
+    spans: &[Span],
+) -> Result<Vec<WordTable>, AllocationError>
     requires { All (IsWordSpan source.now) spans.now }
     ensures ok { IfOk result (λ tables. tables.items ≡ tables_at source.now spans.now) }
     ensures memory { IfErr result (λ error. error ≡ AllocationError.Memory) }
@@ -107,8 +111,13 @@ fn tables_of(alloc: Global, source: &[u8], spans: &[Span]) -> Result<Vec<WordTab
 }
 
 // A word with its number and its first span.
-fn first_met(alloc: Global, word: &str, symbol: u64, span: Span) -> Result<IndexedWord, AllocationError>
-    ensures ok { IfOk result (λ found. found ≡ record { text = word.now; symbol = symbol; spans = span ∷ [] }) }
+fn first_met(
+    alloc: Global,
+    word: &str,
+    symbol: u64,
+    span: Span,
+) -> Result<IndexedWord, AllocationError>
+    ensures ok { IfOk result (λ found. found ≡ with_span None word.now symbol span) }
     ensures memory { IfErr result (λ error. error ≡ AllocationError.Memory) }
 {
     let mut spans = Vec::new(alloc);
@@ -130,7 +139,7 @@ fn put_span<'a>(
 ) -> Result<(), AllocationError>
     ensures ok { OnOk result ((q : List ℕ) → get_by (λ k. slice_cmp nat_cmp q k.now) words.new
         ≡ (if bytes_eq word.now q then Some (with_span (get_by (λ k. slice_cmp nat_cmp word.now k.now) words.old) word.now symbol span)
-            else get_by (λ k. slice_cmp nat_cmp q k.now) words.old)) }
+        else get_by (λ k. slice_cmp nat_cmp q k.now) words.old)) }
     ensures memory { IfErr result (λ error. error ≡ AllocationError.Memory) }
 {
     match words.get_mut(&word) {
@@ -159,13 +168,23 @@ fn by_word<'a>(
     let mut words = BTreeMap::new(alloc);
     for place in 0..spans.len() {
         let span = spans[place];
-        put_span(alloc, &mut words, word_at(source, span), numbers[place], span)?;
+        put_span(
+            alloc,
+            &mut words,
+            word_at(source, span),
+            numbers[place],
+            span,
+        )?;
     }
     Ok(words)
 }
 
 // The words alone, in order.
-fn in_order(alloc: Global, words: BTreeMap<&str, IndexedWord>) -> Result<WordIndex, AllocationError> {
+fn in_order(alloc: Global, words: BTreeMap<&str, IndexedWord>) -> Result<WordIndex, AllocationError>
+    ensures ok { IfOk result (λ index. index ≡ values words.entry) }
+    ensures ordered { IsOrdered (λ x y. slice_cmp nat_cmp x.now y.now) words.entry }
+    ensures memory { IfErr result (λ error. error ≡ AllocationError.Memory) }
+{
     let mut index = Vec::with_capacity(alloc, words.len())?;
     for (_, word) in words {
         index.push(word)?;
@@ -197,7 +216,8 @@ pub fn index_words<G: Gate, H: Threads + Wait + Sync>(
     ensures index { IfOk result (IsIndexOf source.now (front_of pass.new)) }
     ensures front { OnOk result (AppendsWords workers (front_of pass.old) source.now (front_of pass.new)) }
 
-    ensures some_added { OnErr result (AppendsSomeWords (front_of pass.old) source.now (front_of pass.new)) }
+    ensures some_added { OnErr result ((pass.new ≡ pass.old)
+        ⊎ AppendsSomeWords (front_of pass.old) source.now (front_of pass.new)) }
     ensures memory { IfErr result (λ error. error ≡ AllocationError.Memory) }
 
     ensures whole { IsWhole pass.new }
