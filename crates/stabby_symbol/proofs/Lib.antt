@@ -1,0 +1,5 @@
+pub mod Bytes
+pub mod PackedTexts
+pub mod WordSpans
+pub mod Symbols
+pub mod Indexing

@@ -1,0 +1,6 @@
+pub mod Packed
+pub mod Unpacked
+pub mod Symbols
+pub mod Words
+pub mod Index
+pub mod Laws

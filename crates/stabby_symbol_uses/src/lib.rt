@@ -1,0 +1,9 @@
+//! Callers of symbols, in a crate of their own, and the tests of that library.
+#![tactic(auto)]
+
+#[cfg(test)]
+mod index_tests;
+#[cfg(test)]
+mod packing_tests;
+#[cfg(test)]
+mod symbol_tests;
