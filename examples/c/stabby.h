@@ -41,8 +41,8 @@ enum {
     /* Another client was inside a call on this registry at that moment. Try again; no table was added by this try.
      * It never comes while the registry has one client, which was never split or has all others joined to it. */
     STABBY_BUSY = 2,
-    /* Another client added a table meanwhile. Try again; no table was added by this try. Nor does it come while the
-     * registry has one client. */
+    /* Another client added a table meanwhile. Try again; no table was added by this try. It never comes where
+     * STABBY_BUSY never does. */
     STABBY_MOVED = 3,
     /* The table is new, and the registry has 2^63 - 1 tables. */
     STABBY_FULL = 4,
