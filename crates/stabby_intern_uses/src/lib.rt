@@ -7,6 +7,8 @@ mod fresh;
 #[cfg(test)]
 mod gate_tests;
 #[cfg(test)]
+mod hostile_tests;
+#[cfg(test)]
 mod overlap_tests;
 #[cfg(test)]
 mod run_tests;

@@ -131,6 +131,45 @@ fn drain_stop_and_drop(rt: HostRuntime) -> Result<(), Fail> {
 }
 
 #[test]
+fn drains_of_the_whole_list(rt: HostRuntime) -> Result<(), Fail> {
+    let mut list = Vec::from_slice(rt.alloc(), &[0u8, 1, 2, 3, 4, 5])?;
+    if let Some(drain) = list.try_drain(0, 6) {
+        drain.stop();
+    }
+    assert_eq!(rt; list.as_slice(), [0u8, 1, 2, 3, 4, 5].as_slice());
+    if let Some(drain) = list.try_drain(0, 6) {
+        drop(drain);
+    }
+    assert!(rt; list.is_empty());
+    Ok(())
+}
+
+#[test]
+fn drain_read_past_its_end(rt: HostRuntime) -> Result<(), Fail> {
+    let mut list = Vec::from_slice(rt.alloc(), &[0u8, 1, 2, 3, 4, 5])?;
+    let Some(mut drain) = list.try_drain(2, 4) else {
+        return Err("the range is in the list")?;
+    };
+    assert_eq!(rt; drain.next(), Some(2));
+    assert_eq!(rt; drain.next(), Some(3));
+    assert_eq!(rt; drain.next(), None);
+    drain.stop();
+    assert_eq!(rt; list.as_slice(), [0u8, 1, 4, 5].as_slice());
+    let Some(mut drain) = list.try_drain(1, 3) else {
+        return Err("the range is in the list")?;
+    };
+    assert_eq!(rt; drain.next(), Some(1));
+    let mut both = drain.double_ended();
+    assert_eq!(rt; both.next_back(), Some(4));
+    assert_eq!(rt; both.len(), 0);
+    assert_eq!(rt; both.next_back(), None);
+    assert_eq!(rt; both.next(), None);
+    drop(both);
+    assert_eq!(rt; list.as_slice(), [0u8, 5].as_slice());
+    Ok(())
+}
+
+#[test]
 fn drain_bounds(rt: HostRuntime) -> Result<(), Fail> {
     let mut list = Vec::from_slice(rt.alloc(), &[0u8, 1, 2, 3, 4, 5])?;
     match list.try_drain(2, 2) {

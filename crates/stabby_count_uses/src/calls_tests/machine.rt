@@ -32,6 +32,49 @@ fn machine_steps(rt: HostRuntime) {
     assert_eq!(rt; machine.strong() + machine.weak(), 0);
 }
 
+fn answers(worked: &[(Step, Reply)]) -> bool {
+    let mut machine = HandleMachine::new();
+    for (step, reply) in worked {
+        if machine.step(*step) != *reply {
+            return false;
+        }
+    }
+    true
+}
+
+// Steps without their handle, and ends in another order.
+#[test]
+fn machine_at_odd_steps(rt: HostRuntime) {
+    assert!(rt;
+        answers(&[
+            (Step::EndStrong, Reply::Last),
+            (Step::Upgrade, Reply::NotHeld),
+            (Step::Take, Reply::Freed),
+            (Step::Look, Reply::NotHeld)
+        ])
+    );
+    assert!(rt;
+        answers(&[
+            (Step::Downgrade, Reply::Done),
+            (Step::Downgrade, Reply::Done),
+            (Step::Upgrade, Reply::Done),
+            (Step::EndStrong, Reply::Done),
+            (Step::EndStrong, Reply::Last),
+            (Step::EndWeak, Reply::Done),
+            (Step::Take, Reply::Done),
+            (Step::EndWeak, Reply::Freed)
+        ])
+    );
+    let counts = Reply::Counts { strong: 2, weak: 1 };
+    assert!(rt;
+        answers(&[
+            (Step::Clone, Reply::Done),
+            (Step::Take, Reply::NotHeld),
+            (Step::Look, counts)
+        ])
+    );
+}
+
 fn mixed(digest: u64, number: u64) -> u64 {
     digest.wrapping_mul(1099511628211).wrapping_add(number)
 }
