@@ -1,0 +1,4 @@
+pub mod ShelfLemmas
+pub mod Bindings
+pub mod Places
+pub mod PluginLemmas
