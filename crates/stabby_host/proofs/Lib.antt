@@ -2,3 +2,6 @@ pub mod ShelfLemmas
 pub mod Bindings
 pub mod Places
 pub mod PluginLemmas
+pub mod Guests
+pub mod Endings
+pub mod Asking

@@ -1,5 +1,5 @@
 -- What a place of a list holds once an item was set, or one was added at the end.
-use Rattle.std.proofs.Common.{◌≡◌, ◌≢◌, ◌⊎◌, inl, inr, ℕ, zero, suc, ◌+◌, ◌<◌, List, [], ◌∷◌, ◌++◌, length, set, Some, refl, ap, sym, subst, arith}
+use Rattle.std.proofs.Common.{◌≡◌, ◌≢◌, ◌⊎◌, inl, inr, ℕ, zero, suc, ◌+◌, ◌<◌, List, [], ◌∷◌, ◌++◌, length, get_or, set, Some, refl, ap, sym, subst, arith}
 use mathlib.Core.List.{IsPrefix}
 use Rattle.std.specs.Prelude.{slice_get, unwrap_or}
 use Rattle.std.proofs.lemmas.Option.{none-some}
@@ -47,10 +47,21 @@ module _ {A : Type 0} where
   get_set (z ∷ zs) (suc i) y zero x at = inl (at, λ e. omega (arith, e))
   get_set (z ∷ zs) (suc i) y (suc j) x at = set_by zs i y j x (get_set zs i y j x at)
 
+  -- reading by a default gives what stands there
+  pub read_there : (xs : List A) (i : ℕ) (x d : A) → slice_get xs i ≡ Some x → get_or xs i d ≡ x
+  read_there [] i x d at = absurd (none-some x at)
+  read_there (y ∷ xs) zero x d at = same_some y x at
+  read_there (y ∷ xs) (suc i) x d at = read_there xs i x d at
+
   pub set_same : (xs : List A) (i : ℕ) (x y : A) → slice_get xs i ≡ Some x → slice_get (set xs i y) i ≡ Some y
   set_same [] i x y at = absurd (none-some x at)
   set_same (z ∷ zs) zero x y at = refl
   set_same (z ∷ zs) (suc i) x y at = set_same zs i x y at
+
+  pub length_set : (xs : List A) (i : ℕ) (y : A) → length (set xs i y) ≡ length xs
+  length_set [] i y = refl
+  length_set (z ∷ zs) zero y = refl
+  length_set (z ∷ zs) (suc i) y = ap suc (length_set zs i y)
 
   pub set_other : (xs : List A) (i j : ℕ) (y : A) → j ≢ i → slice_get (set xs i y) j ≡ slice_get xs j
   set_other [] i j y other = refl

@@ -1,8 +1,10 @@
 -- What is true of every host's plugins stays true where one is added, ends, or has other steps in its handle's record.
-use Rattle.std.proofs.Common.{◌≡◌, ◌≢◌, ◌⊎◌, inl, inr, ℕ, zero, suc, ◌+◌, ◌<◌, ◌≤◌, Bool, true, false, List, [], ◌∷◌, ◌++◌, length, set, Option, Some, None, refl, ap, sym, subst, ◌∙◌, arith}
+use Rattle.std.proofs.Common.{◌≡◌, ◌≢◌, ◌⊎◌, ◌↔◌, inl, inr, ℕ, zero, suc, ◌+◌, ◌<◌, ◌≤◌, Bool, true, false, List, [], ◌∷◌, ◌++◌, length, set, Option, Some, None, refl, ap, sym, subst, ◌∙◌, arith}
 use mathlib.Core.List.{IsPrefix}
 use Rattle.std.specs.Prelude.{slice_get, Contains}
 use Rattle.std.proofs.lemmas.Option.{none-some}
+use Rattle.stabby_tables.specs.Lists.{IsDistinct, place}
+use Rattle.stabby_tables.proofs.Distinctness.{place_is}
 use Rattle.stabby_count.specs.declared.spent.Spent.{Spent}
 use Rattle.stabby_count.specs.declared.strong.Arc.{Arc}
 use Rattle.stabby_host.proofs.Places.{get_append, get_grown, get_last, get_prefix, get_set, same_some, set_other, set_same}
@@ -114,8 +116,39 @@ module _ {U : Type 0} where
       other_live plugins i m (Ended left) (λ e. free n (Live q, other.0, subst (Contains q.bound.items) e has, other.1)) (held n m q other.0 has)
   bound_ended_by plugins i n m left q held free (inr here) has = absurd (live_not_ended q left here.1)
 
+  stays_live : (plugins : List (Plugin U)) (i m : ℕ) (p q : Loaded U) → slice_get plugins i ≡ Some (Live p) → is_live (slice_get plugins m) ≡ true
+      → is_live (slice_get (set plugins i (Live q)) m) ≡ true
+  stays_live [] i m p q at live = absurd (none-some (Live p) at)
+  stays_live (x ∷ rest) zero zero p q at live = refl
+  stays_live (x ∷ rest) zero (suc m) p q at live = live
+  stays_live (x ∷ rest) (suc i) zero p q at live = live
+  stays_live (x ∷ rest) (suc i) (suc m) p q at live = stays_live rest i m p q at live
+
+  bound_changed_by : (plugins : List (Plugin U)) (i n m : ℕ) (p x : Loaded U) (handle : Arc U) → AreBoundToLive plugins → slice_get plugins i ≡ Some (Live p)
+      → ((slice_get plugins n ≡ Some (Live x)) × (n ≢ i)) ⊎ ((n ≡ i) × (Live (record p { handle = handle }) ≡ Live x)) → Contains x.bound.items m
+      → is_live (slice_get plugins m) ≡ true
+  bound_changed_by plugins i n m p x handle held at (inl other) has = held n m x other.0 has
+  bound_changed_by plugins i n m p x handle held at (inr here) has =
+      held i m p at (subst (λ (y : Loaded U). Contains y.bound.items m) (sym (same_live (record p { handle = handle }) x here.1)) has)
+
+  -- a live plugin's handle took some steps
+  pub bound_changed : (plugins : List (Plugin U)) (i : ℕ) (p : Loaded U) (handle : Arc U) → slice_get plugins i ≡ Some (Live p) → AreBoundToLive plugins
+      → AreBoundToLive (set plugins i (Live (record p { handle = handle })))
+  bound_changed plugins i p handle at held = λ n m x there has.
+      let q = record p { handle = handle } in
+      stays_live plugins i m p q at (bound_changed_by plugins i n m p x handle held at (get_set plugins i (Live q) n (Live x) there) has)
+
   -- a plugin that no live one is bound to ended
   pub bound_ended : (plugins : List (Plugin U)) (i : ℕ) (left : Option Spent) → AreBoundToLive plugins → ((j : ℕ) → ¬ NeedsPlugin plugins i j)
       → AreBoundToLive (set plugins i (Ended left))
   bound_ended plugins i left held free = λ n m q at has.
       bound_ended_by plugins i n m left q held free (get_set plugins i (Ended left) n (Live q) at) has
+
+  -- Plugins have one number exactly where their tables are equal: each distinct table has one.
+  pub one_number : (tables : List (List ℕ)) (plugins : List (Plugin U)) (n m : ℕ) (p q : Loaded U) → IsDistinct tables → AreNumbered tables plugins
+      → slice_get plugins n ≡ Some (Live p) → slice_get plugins m ≡ Some (Live q) → (p.number ≡ q.number) ↔ (p.table ≡ q.table)
+  one_number tables plugins n m p q once held at there =
+      let first = held n p at in
+      let second = held m q there in
+      (λ e. same_some p.table q.table (sym first ∙ (ap (slice_get tables) e ∙ second)),
+      λ e. sym (place_is tables p.table p.number once first) ∙ (ap (place tables) e ∙ place_is tables q.table q.number once second))

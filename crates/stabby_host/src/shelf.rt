@@ -1,5 +1,6 @@
 //! A registry with its whole pass: one caller's list of distinct tables.
 ghost use Rattle.std.specs.Prelude.{◌≡◌};
+ghost use Rattle.std.proofs.Props.{props};
 ghost use Rattle.stabby_tables.specs.Lists.{IsDistinct};
 ghost use Rattle.stabby_registry.specs.Passes.{IsPassOf, IsWhole, front_of};
 
@@ -11,9 +12,9 @@ use std::alloc::Global;
 pub(crate) struct Shelf {
     pub(crate) registry: VtBtree<5>,
     pub(crate) pass: TreePass<5>,
-    ghost belongs: { ∥ IsPassOf registry pass ∥₁ },
+    ghost belongs: { IsPassOf registry pass } by { Prim.hlevel props },
     ghost whole: { IsWhole pass },
-    ghost distinct: { ∥ IsDistinct (front_of pass) ∥₁ },
+    ghost distinct: { IsDistinct (front_of pass) } by { Prim.hlevel props },
 }
 
 impl Shelf {
