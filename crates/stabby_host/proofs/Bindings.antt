@@ -3,7 +3,7 @@ use Rattle.std.proofs.Common.{◌≡◌, ◌⊎◌, inl, inr, ℕ, zero, suc, �
 use Rattle.std.specs.Prelude.{slice_get}
 use Rattle.stabby_layout.specs.Report.{Report}
 use Rattle.stabby_host.proofs.Places.{get_append, get_last, same_some}
-use Rattle.stabby_host.specs.Plugins.{BindsFirst, IsFirstUnmet, IsLeastMeeting, NoneMeets}
+use Rattle.stabby_host.specs.Plugins.{AreMet, BindsFirst, IsFirstUnmet, IsLeastMeeting, NoneMeets}
 use Rattle.stabby_host.specs.declared.need.Need.{Need}
 use Rattle.stabby_host.specs.declared.plugin.Plugin.{Plugin}
 
@@ -38,11 +38,27 @@ module _ {U : Type 0} (id : U → ℕ) (report : U → Report) (needs : List Nee
     each = λ i x low got. binds_by k bound need x n i held at least (below i k low) got;
   }
 
-  -- no plugin meets the need after those that are bound
-  pub first_unmet : (k : ℕ) (bound : List ℕ) (need : Need) → BindsFirst id report needs plugins k bound → slice_get needs k ≡ Some need → k < length needs
+  -- needs that are bound are met
+  pub bound_are_met : (k : ℕ) (bound : List ℕ) → BindsFirst id report needs plugins k bound → AreMet id report needs plugins k
+  bound_are_met k bound held = λ i x low got. let e = held.each i x low got in (e.0, e.1.1)
+
+  met_by : (k : ℕ) (need x : Need) (n i : ℕ) → AreMet id report needs plugins k → slice_get needs k ≡ Some need
+      → IsLeastMeeting id report need plugins n → (i < k) ⊎ (i ≡ k) → slice_get needs i ≡ Some x
+      → (m : ℕ) × IsLeastMeeting id report x plugins m
+  met_by k need x n i held at least (inl low) got = held i x low got
+  met_by k need x n i held at least (inr same) got =
+      (n, subst (λ (y : Need). IsLeastMeeting id report y plugins n) (same_some need x (sym at ∙ (sym (ap (slice_get needs) same) ∙ got))) least)
+
+  -- one more need is met
+  pub met_next : (k : ℕ) (need : Need) (n : ℕ) → AreMet id report needs plugins k → slice_get needs k ≡ Some need
+      → IsLeastMeeting id report need plugins n → AreMet id report needs plugins (k + 1)
+  met_next k need n held at least = λ i x low got. met_by k need x n i held at least (below i k low) got
+
+  -- no plugin meets the need after those that are met
+  pub first_unmet : (k : ℕ) (need : Need) → AreMet id report needs plugins k → slice_get needs k ≡ Some need → k < length needs
       → NoneMeets id report need plugins → IsFirstUnmet id report needs plugins k
-  first_unmet k bound need held at low none = record {
+  first_unmet k need held at low none = record {
     in_range = low;
     unmet = λ x got. subst (λ (y : Need). NoneMeets id report y plugins) (same_some need x (sym at ∙ got)) none;
-    earlier = λ i x lower got. let e = held.each i x lower got in (e.0, e.1.1);
+    earlier = held;
   }

@@ -5,3 +5,4 @@ pub mod PluginLemmas
 pub mod Guests
 pub mod Endings
 pub mod Asking
+pub mod Loading

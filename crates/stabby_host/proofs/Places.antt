@@ -58,6 +58,10 @@ module _ {A : Type 0} where
   set_same (z ∷ zs) zero x y at = refl
   set_same (z ∷ zs) (suc i) x y at = set_same zs i x y at
 
+  pub length_grown : (xs : List A) (x : A) → length (xs ++ x ∷ []) ≡ length xs + 1
+  length_grown [] x = refl
+  length_grown (y ∷ xs) x = let r = length_grown xs x in omega arith
+
   pub length_set : (xs : List A) (i : ℕ) (y : A) → length (set xs i y) ≡ length xs
   length_set [] i y = refl
   length_set (z ∷ zs) zero y = refl

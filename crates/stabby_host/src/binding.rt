@@ -70,9 +70,9 @@ fn unmet_or_memory<U: Universe>(plugins: &[Plugin<U>], needs: &[Need]) -> LoadFa
 {
     let mut place = 0;
     for need in needs {
-        if least_meeting(plugins, need).is_none() {
+        let Some(_) = least_meeting(plugins, need) else {
             return LoadFault::Unmet { place };
-        }
+        };
         place += 1;
     }
     LoadFault::Memory

@@ -88,7 +88,10 @@ impl<U: Universe> Host<U> {
         if loaded == 4294967295 {
             return Err(LoadFault::Exhausted { loaded });
         }
-        let bound = bind(alloc, &self.plugins, needs)?;
+        let bound = match bind(alloc, &self.plugins, needs) {
+            Ok(bound) => bound,
+            Err(fault) => return Err(fault),
+        };
         let Ok(table) = vtable.list_words(alloc) else {
             return Err(LoadFault::Memory);
         };
