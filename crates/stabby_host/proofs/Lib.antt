@@ -1,5 +1,4 @@
 pub mod ShelfLemmas
-pub mod Bindings
 pub mod Places
 pub mod PluginLemmas
 pub mod Guests

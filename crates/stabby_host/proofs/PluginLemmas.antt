@@ -149,6 +149,7 @@ module _ {U : Type 0} where
       → slice_get plugins n ≡ Some (Live p) → slice_get plugins m ≡ Some (Live q) → (p.number ≡ q.number) ↔ (p.table ≡ q.table)
   one_number tables plugins n m p q once held at there =
       let first = held n p at in
-      let second = held m q there in
-      (λ e. same_some p.table q.table (sym first ∙ (ap (slice_get tables) e ∙ second)),
-      λ e. sym (place_is tables p.table p.number once first) ∙ (ap (place tables) e ∙ place_is tables q.table q.number once second))
+      let second = held m q there in (
+        λ e. same_some p.table q.table (sym first ∙ (ap (slice_get tables) e ∙ second)),
+        λ e. sym (place_is tables p.table p.number once first) ∙ (ap (place tables) e ∙ place_is tables q.table q.number once second),
+      )
