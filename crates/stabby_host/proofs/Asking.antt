@@ -1,5 +1,5 @@
 -- An answer other than Unknown and Ended is of a live plugin.
-use Rattle.std.proofs.Common.{◌≡◌, Option, Some, None, Result, Ok, refl}
+use Rattle.std.proofs.Common.{◌≡◌, Option, Some, None, Ok, refl}
 use Rattle.stabby_host.specs.Answers.{Answers}
 use Rattle.stabby_host.specs.declared.faults.AskFault.{AskFault}
 use Rattle.stabby_host.specs.declared.plugin.Loaded.{Loaded}

@@ -1,8 +1,7 @@
 -- The end of a host's handle, where others have one.
-use Rattle.std.proofs.Common.{◌≡◌, ℕ, ◌<◌, List, set, Some, None, refl, sym, ap, subst, ◌∙◌, rules}
+use Rattle.std.proofs.Common.{◌≡◌, ℕ, List, set, Some, None, refl, sym, ap, subst, ◌∙◌}
 use Rattle.std.specs.Prelude.{slice_get, Err, IsSome}
 use Rattle.std.proofs.lemmas.List.{set-set}
-use Rattle.stabby_count.specs.Records.{strong_of}
 use Rattle.stabby_count.specs.Shared.{EndsAt, IsSole, LeavesOthers, record_after_end, spent_record, spent_word}
 use Rattle.stabby_count.specs.declared.spent.Spent.{Spent}
 use Rattle.stabby_host.proofs.Places.{same_some}

@@ -1,18 +1,17 @@
 -- What is true once a plugin was added.
-use Rattle.std.proofs.Common.{◌≡◌, ◌≢◌, ℕ, zero, suc, ◌+◌, ◌<◌, ◌≤◌, true, List, [], ◌∷◌, ◌++◌, length, get_or, Some, refl, ap, sym, subst, ◌∙◌, arith}
+use Rattle.std.proofs.Common.{◌≡◌, ◌≢◌, ℕ, zero, suc, ◌<◌, true, List, [], ◌∷◌, length, Some, refl, ap, sym, subst, ◌∙◌, arith}
 use Rattle.std.specs.Prelude.{slice_get, Contains}
 use Rattle.stabby_layout.specs.Report.{Report}
 use Rattle.stabby_dyn.specs.declared.member.Any as Any
 use Rattle.stabby_dyn.specs.declared.member.Universe as Universe
 use Rattle.stabby_host.proofs.Places.{read_there}
 use Rattle.stabby_host.specs.Facts.{is_live}
-use Rattle.stabby_host.specs.Hosts.{HasRoom, IsLoadFault, limit_of, plugins_of}
-use Rattle.stabby_host.specs.Plugins.{BindsFirst, IsBindFault, IsLeastMeeting, Meets, live_count}
+use Rattle.stabby_host.specs.Hosts.{HasRoom, IsLoadFault, plugins_of}
+use Rattle.stabby_host.specs.Plugins.{BindsFirst, IsBindFault, IsLeastMeeting, Meets}
 use Rattle.stabby_host.specs.declared.faults.LoadFault.{LoadFault}
 use Rattle.stabby_host.specs.declared.faults.LoadFault.TheVariants.{Full, Exhausted, Unmet, Memory}
 use Rattle.stabby_host.specs.declared.host.Host.{Host}
 use Rattle.stabby_host.specs.declared.need.Need.{Need}
-use Rattle.stabby_host.specs.declared.plugin.Loaded.{Loaded}
 use Rattle.stabby_host.specs.declared.plugin.Plugin.{Plugin}
 use Rattle.stabby_host.specs.declared.plugin.Plugin.TheVariants.{Live, Ended}
 

@@ -1,5 +1,5 @@
 -- What is true of every host's plugins stays true where one is added, ends, or has other steps in its handle's record.
-use Rattle.std.proofs.Common.{◌≡◌, ◌≢◌, ◌⊎◌, ◌↔◌, inl, inr, ℕ, zero, suc, ◌+◌, ◌<◌, ◌≤◌, Bool, true, false, List, [], ◌∷◌, ◌++◌, length, set, Option, Some, None, refl, ap, sym, subst, ◌∙◌, arith}
+use Rattle.std.proofs.Common.{◌≡◌, ◌≢◌, ◌⊎◌, ◌↔◌, inl, inr, ℕ, zero, suc, ◌+◌, true, List, [], ◌∷◌, ◌++◌, length, set, Option, Some, None, refl, ap, sym, subst, ◌∙◌, arith}
 use mathlib.Core.List.{IsPrefix}
 use Rattle.std.specs.Prelude.{slice_get, Contains}
 use Rattle.std.proofs.lemmas.Option.{none-some}
@@ -7,7 +7,7 @@ use Rattle.stabby_tables.specs.Lists.{IsDistinct, place}
 use Rattle.stabby_tables.proofs.Distinctness.{place_is}
 use Rattle.stabby_count.specs.declared.spent.Spent.{Spent}
 use Rattle.stabby_count.specs.declared.strong.Arc.{Arc}
-use Rattle.stabby_host.proofs.Places.{get_append, get_grown, get_last, get_prefix, get_set, same_some, set_other, set_same}
+use Rattle.stabby_host.proofs.Places.{get_append, get_grown, get_prefix, get_set, same_some, set_other}
 use Rattle.stabby_host.specs.Facts.{AreBoundToLive, AreNumbered, is_live}
 use Rattle.stabby_host.specs.Plugins.{live_count, NeedsPlugin}
 use Rattle.stabby_host.specs.declared.plugin.Loaded.{Loaded}

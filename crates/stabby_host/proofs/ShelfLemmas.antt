@@ -1,5 +1,5 @@
 -- What an insert by a whole pass does to a shelf's tables.
-use Rattle.std.proofs.Common.{◌≡◌, ℕ, ◌+◌, ◌≤◌, Bool, true, false, List, [], ◌∷◌, ◌++◌, length, refl, arith, if◌then◌else◌, append-nil}
+use Rattle.std.proofs.Common.{◌+◌, ◌≤◌, true, false, List, [], ◌∷◌, ◌++◌, length, refl, arith, if◌then◌else◌, append-nil}
 use mathlib.Core.List.{IsPrefix}
 use Rattle.std.proofs.lemmas.List.{length_push}
 use Rattle.stabby_tables.specs.Lists.{has, with_table}

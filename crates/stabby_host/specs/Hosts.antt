@@ -1,5 +1,5 @@
 -- What contracts say of a host: its limit, its plugins in the order of loading, and the tables of its registry.
-use Rattle.std.specs.Prelude.{◌≡◌, ℕ, ◌+◌, ◌<◌, ◌≤◌, List, [], ◌∷◌, ◌++◌, length}
+use Rattle.std.specs.Prelude.{◌≡◌, ℕ, ◌<◌, List, [], ◌∷◌, ◌++◌, length}
 use Rattle.stabby_layout.specs.Report.{Report}
 use Rattle.stabby_tables.specs.Lists.{with_table}
 use Rattle.stabby_count.specs.Shared.{arc_record, IsSole}

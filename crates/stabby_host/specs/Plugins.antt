@@ -1,9 +1,8 @@
 -- What contracts say of a list of plugins.
-use Rattle.std.specs.Prelude.{◌≡◌, ◌≢◌, ℕ, ◌+◌, ◌<◌, Bool, true, false, List, [], ◌∷◌, length, Option, Some, None, slice_get, Contains}
+use Rattle.std.specs.Prelude.{◌≡◌, ◌≢◌, ℕ, ◌+◌, ◌<◌, List, [], ◌∷◌, length, Option, Some, None, slice_get, Contains}
 use Rattle.stabby_layout.specs.Report.{Report}
-use Rattle.stabby_count.specs.Shared.{arc_value, arc_block, arc_record}
+use Rattle.stabby_count.specs.Shared.{arc_value}
 use Rattle.stabby_count.specs.declared.spent.Spent.{Spent}
-use Rattle.stabby_count.specs.declared.strong.Arc.{Arc}
 use Rattle.stabby_host.specs.declared.faults.LoadFault.{LoadFault}
 use Rattle.stabby_host.specs.declared.faults.LoadFault.TheVariants.{Full, Exhausted, Unmet, Memory}
 use Rattle.stabby_host.specs.declared.need.Need.{Need}

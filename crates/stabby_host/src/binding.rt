@@ -29,12 +29,12 @@ fn has_type<U: Universe>(value: &U, need: &Need) -> bool
 pub(crate) fn least_meeting<U: Universe>(plugins: &[Plugin<U>], need: &Need) -> Option<u64>
     ensures { FindsMeeting U.type_id U.type_report need.now plugins.now result }
 {
-    let mut i = 0;
+    let mut number = 0;
     for plugin in plugins {
         if meets(plugin, need) {
-            return Some(i);
+            return Some(number);
         }
-        i += 1;
+        number += 1;
     }
     None
 }

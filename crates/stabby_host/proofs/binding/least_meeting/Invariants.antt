@@ -3,5 +3,5 @@ use Rattle.stabby_host.specs.Plugins.{Meets}
 use Rattle.stabby_host.proofs.binding.least_meeting.Given as goal
 
 abbrev pub invariant-loop-plugin : goal.invariant-loop-plugin
-invariant-loop-plugin g l = (l.i ≡ l.plugin-index)
-    × ((j : ℕ) (p : _) → j < l.i → slice_get l.plugins j ≡ Some p → ¬ Meets g.U.Any.type_id g.U.Any.type_report l.need p)
+invariant-loop-plugin g l = (l.number ≡ l.plugin-index)
+    × ((j : ℕ) (p : _) → j < l.number → slice_get l.plugins j ≡ Some p → ¬ Meets g.U.Any.type_id g.U.Any.type_report l.need p)

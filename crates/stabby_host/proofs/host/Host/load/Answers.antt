@@ -1,4 +1,4 @@
-use Rattle.std.proofs.Common.{◌≡◌, ◌≤◌, ◌+◌, ℕ, List, [], ◌∷◌, ◌++◌, length, refl, sym, ap, subst, ◌∙◌, arith}
+use Rattle.std.proofs.Common.{◌≡◌, ◌+◌, List, [], ◌∷◌, ◌++◌, length, refl, sym, ap, subst, ◌∙◌, arith}
 use mathlib.Core.List.{IsPrefix}
 use Rattle.stabby_tables.specs.Lists.{with_table}
 use Rattle.stabby_host.proofs.Loading.{binds_live}
@@ -6,10 +6,9 @@ use Rattle.stabby_host.proofs.Places.{length_grown}
 use Rattle.stabby_host.proofs.PluginLemmas.{bound_grown, live_count_grown, numbered_grown}
 use Rattle.stabby_host.proofs.ShelfLemmas.{few_more, front_of_more}
 use Rattle.stabby_host.specs.Facts.{AreBoundToLive, AreNumbered}
-use Rattle.stabby_host.specs.Hosts.{IsLoadFault, plugins_of, tables_of}
+use Rattle.stabby_host.specs.Hosts.{plugins_of, tables_of}
 use Rattle.stabby_host.specs.Plugins.{BindsFirst, live_count}
 use Rattle.stabby_host.specs.Shelves.{shelf_tables}
-use Rattle.stabby_host.specs.declared.need.Need.{Need}
 use Rattle.stabby_host.specs.declared.plugin.Loaded.{Loaded}
 use Rattle.stabby_host.specs.declared.plugin.Plugin.{Plugin}
 use Rattle.stabby_host.specs.declared.plugin.Plugin.TheVariants.{Live}

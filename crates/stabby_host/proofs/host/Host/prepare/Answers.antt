@@ -1,7 +1,6 @@
-use Rattle.std.proofs.Common.{◌≡◌, ◌≢◌, length, sym, subst, ◌∙◌}
+use Rattle.std.proofs.Common.{◌≢◌, length, ◌∙◌}
 use Rattle.stabby_host.proofs.Loading.{bind_fault, room_for_one}
 use Rattle.stabby_host.specs.Hosts.{plugins_of}
-use Rattle.stabby_host.specs.Plugins.{IsBindFault}
 use Rattle.stabby_host.proofs.host.Host.prepare.Goals as goal
 
 pub returns-in-Err-clause-fault : goal.returns-in-Err-clause-fault

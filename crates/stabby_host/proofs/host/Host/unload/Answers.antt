@@ -1,11 +1,11 @@
-use Rattle.std.proofs.Common.{◌≡◌, ◌≤◌, ◌-◌, ◌+◌, ℕ, List, length, set, Option, Some, Ok, sym, ap, subst, ◌∙◌, arith, slice_get}
+use Rattle.std.proofs.Common.{◌≡◌, ◌≤◌, ℕ, length, set, Option, Ok, sym, ap, subst, ◌∙◌, arith, slice_get}
 use Rattle.stabby_host.proofs.Asking.{answered_live}
 use Rattle.stabby_host.proofs.Places.{length_set}
 use Rattle.stabby_host.proofs.PluginLemmas.{bound_ended, live_count_ended, numbered_ended}
 use Rattle.stabby_host.specs.Answers.{Unloads}
 use Rattle.stabby_host.specs.Facts.{AreBoundToLive, AreNumbered}
 use Rattle.stabby_host.specs.Hosts.{plugins_of, tables_of}
-use Rattle.stabby_host.specs.Plugins.{NeedsPlugin, live_count}
+use Rattle.stabby_host.specs.Plugins.{live_count}
 use Rattle.stabby_host.specs.declared.plugin.Plugin.{Plugin}
 use Rattle.stabby_host.specs.declared.plugin.Plugin.TheVariants.{Ended}
 use Rattle.stabby_host.proofs.host.Host.unload.Goals as goal
