@@ -1,0 +1,5 @@
+pub mod Answers
+pub mod Facts
+pub mod Hosts
+pub mod Plugins
+pub mod Shelves

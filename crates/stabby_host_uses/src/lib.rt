@@ -1,0 +1,5 @@
+//! Callers of a plugin host, in a crate of their own.
+#![tactic(auto)]
+
+#[cfg(test)]
+mod tests;
