@@ -136,7 +136,11 @@ fn are_lookups(view: &View, plain: &[Option<u64>]) -> bool {
 }
 
 /// Whether all calls of the view answer what the plain list has.
-pub fn has_rows(alloc: Global, view: &View, plain: &[Option<u64>]) -> Result<bool, AllocationError> {
+pub fn has_rows(
+    alloc: Global,
+    view: &View,
+    plain: &[Option<u64>],
+) -> Result<bool, AllocationError> {
     let rows = view.rows(alloc)?;
     Ok(
         view.len() == rows.len() as u64

@@ -1,0 +1,1 @@
+//! Each status, through `run` over devices in memory.
