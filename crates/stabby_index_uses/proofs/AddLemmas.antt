@@ -1,7 +1,8 @@
 -- What a commit on an expected stamp adds.
-use Rattle.std.proofs.Common.{◌≡◌, ℕ, ◌+◌, List, [], ◌∷◌, ◌++◌, length, take, refl, sym, ◌∙◌, ap, subst, arith, Result, Ok, Err, Option, Some, None}
-use Rattle.std.specs.Prelude.{IfOk, OnErr}
+use Rattle.std.proofs.Common.{◌≡◌, ℕ, ◌+◌, List, [], ◌∷◌, ◌++◌, length, take, refl, sym, ◌∙◌, ap, subst, arith, Result, Ok, Err, Option, Some, None, Bool, true, false}
+use Rattle.std.specs.Prelude.{IfOk, OnErr, IsTrue, IsSome, ◌↔◌}
 use mathlib.Core.List.{IsPrefix}
+use mathlib.Core.Bool.{false≢true}
 use Rattle.std.proofs.lemmas.List.{length-append}
 use Rattle.std.proofs.lemmas.Grind.{common_steps}
 use Rattle.stabby_cell.specs.Recording.{ViewAdvances}
@@ -17,6 +18,10 @@ use Rattle.stabby_index.specs.declared.apply.ApplyFault.{ApplyFault}
 use Rattle.stabby_index.specs.Rows.{row_at, rows_at, rows_after, changed_by, with_row}
 use Rattle.stabby_index.specs.Applying.{Applied}
 use Rattle.stabby_index_uses.specs.Adding.{AddsRow}
+
+pub absent_by : (b : Bool) (o : Option Row) → b ≡ false → (IsTrue b ↔ IsSome o) → o ≡ None
+absent_by b None e h = refl
+absent_by b (Some r) e h = absurd (false≢true (sym e ∙ h.1 refl))
 
 rows_push : (rows : List Row) (es : List (List Change)) (e : List Change) → rows_after rows (es ++ e ∷ []) ≡ changed_by (rows_after rows es) e
 rows_push rows [] e = refl
@@ -60,3 +65,13 @@ module _ {g : Ghosts Version (List Change)} where
         absent = ap (λ (rows : List Row). row_at rows row.key) (old ∙ sym old_p) ∙ absent;
         rows = new ∙ ap (λ (rows : List Row). with_row rows row) (sym old);
       }
+
+  -- a call that applied changes, or looked, keeps the weight
+  pub keeps_weight : (p q : Pass Version (List Change) g) (changes : List Change) (expect : Option ℕ) (answer : Result ℕ ApplyFault) → IfOk answer (Applied p q changes expect) → OnErr answer (Looked p q) → weight_of q ≡ weight_of p
+  keeps_weight p q changes expect (Ok s) a l = ViewAdvances.weight (Committed.advances (Applied.committed a))
+  keeps_weight p q changes expect (Err e) a l = ViewAdvances.weight (Looked.advances l)
+
+  -- and what it had seen
+  pub keeps_front : (p q : Pass Version (List Change) g) (changes : List Change) (expect : Option ℕ) (answer : Result ℕ ApplyFault) → IfOk answer (Applied p q changes expect) → OnErr answer (Looked p q) → IsPrefix (front_of p) (front_of q)
+  keeps_front p q changes expect (Ok s) a l = ViewAdvances.front (Committed.advances (Applied.committed a))
+  keeps_front p q changes expect (Err e) a l = ViewAdvances.front (Looked.advances l)
