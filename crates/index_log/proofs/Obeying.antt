@@ -7,7 +7,9 @@ use Rattle.stabby_intern.specs.Runs.{Device}
 use Rattle.stabby_intern.proofs.Moved.{took_more, took_nothing}
 use Rattle.index_log.specs.Lines.{IsLineOf, IsNoCommand}
 use Rattle.index_log.specs.Sessions.{State, after, after_all, Prints, PrintsAll}
-use Rattle.index_log.specs.Runs.{AllObeyed, SomeObeyed, BadObeyed, PartObeyed, ObeyedTo, LineObeyed, LinePart, Untouched}
+use Rattle.index_log.specs.Runs.{AllObeyed, SomeObeyed, BadObeyed, PartObeyed, ObeyedTo, LineObeyed, LinePart, LineEnds, Ends, Untouched}
+use Rattle.index_log.specs.declared.status.Status.{Status}
+use Rattle.index_log.specs.declared.status.Status.TheVariants.{Ok, Memory, Usage, BadLine, TooLong, ReadFault, WriteFault}
 use Rattle.index_log.specs.declared.command.Command.{Command}
 
 abbrev pub device : Option (List ℕ) → Option (List ℕ) → ℕ → ℕ → Device
@@ -86,3 +88,14 @@ part_done start s lines done back line a b c f g h split o l = record {
   taken = took_more a b c (ObeyedTo.printed o) (take (LinePart.written l) (LinePart.printed l)) (ObeyedTo.taken o) (LinePart.taken l);
   failed = rw (sym (ObeyedTo.no_write_failed o)) (LinePart.failed l);
 }
+
+-- what a status of a line that wasn't obeyed says of all lines
+pub ends_at : (start s t : State) (lines done back : List (List ℕ)) (line : List ℕ) (a b c : Option (List ℕ)) (f g h k : ℕ) (status : Status) → lines ≡ done ++ line ∷ back → k ≡ length done + 1 → ObeyedTo start s done (device a b f g) → (status ≡ Ok → ⊥)
+    → LineEnds s t line (device b c g h) k status → Ends start lines (device a c f h) status
+ends_at start s t lines done back line a b c f g h k Ok split place o not ends = absurd (not refl)
+ends_at start s t lines done back line a b c f g h k Memory split place o not ends = some_done start s lines done (line ∷ back) a b c f g h split o ends
+ends_at start s t lines done back line a b c f g h k (BadLine found) split place o not ends = bad_line start s lines done back line a b c f g h found split (ends.0 ∙ place) o ends.1 ends.2
+ends_at start s t lines done back line a b c f g h k WriteFault split place o not ends = part_done start s lines done back line a b c f g h split o ends
+ends_at start s t lines done back line a b c f g h k Usage split place o not ends = absurd ends
+ends_at start s t lines done back line a b c f g h k TooLong split place o not ends = absurd ends
+ends_at start s t lines done back line a b c f g h k ReadFault split place o not ends = absurd ends

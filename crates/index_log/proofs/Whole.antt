@@ -54,3 +54,7 @@ module _ {g : Ghosts Version (List Change)} where
       let begun : IsPrefix (front_of p) (Applied.earlier a ++ changes ∷ []) = subst (IsPrefix (front_of p)) front (ViewAdvances.front (Committed.advances c)) in
       let same : front_of p ≡ Applied.earlier a = begun_same (front_of p) (Applied.earlier a) changes begun (omega arith) in
       front ∙ ap (λ (l : List (List Change)). l ++ changes ∷ []) (sym same)
+
+  pub applied_stamp : (cell : TurnCell Version (List Change)) (p q : Pass Version (List Change) g) (changes : List Change) (expect : Option ℕ) (s : ℕ) → IsPassOf cell p → IsPassOf cell q → IsWhole p → Applied p q changes expect s → s ≡ length (front_of p) + 1
+  applied_stamp cell p q changes expect s is is' whole a =
+      Applied.count a ∙ (ap length (applied_front cell p q changes expect s is is' whole a) ∙ length-append (front_of p) (changes ∷ []))

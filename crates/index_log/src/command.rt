@@ -1,6 +1,6 @@
 //! The lines of the input.
 
-ghost use Rattle.std.specs.Prelude.{◌≡◌, IfOk, IfErr, codes};
+ghost use Rattle.std.specs.Prelude.{◌≡◌, Some, IfOk, IfErr, codes};
 ghost use Rattle.std.specs.Option.{option_copied};
 ghost use Rattle.index_log.specs.Lines.{Reads, ReadsAfter, ReadsRow, ReadsStamp};
 
@@ -91,10 +91,12 @@ fn parse_row(alloc: Global, text: &[u8]) -> Result<Option<Row>, AllocationError>
     ensures reads { IfOk result (λ found. ReadsRow text.now found) }
     ensures memory { IfErr result (λ error. error ≡ AllocationError.Memory) }
 {
-    let (key, Some(after_key)) = first_piece(text) else {
+    let (key, rest) = first_piece(text);
+    let Some(after_key) = rest else {
         return Ok(None);
     };
-    let (group, Some(after_group)) = first_piece(after_key) else {
+    let (group, last) = first_piece(after_key);
+    let Some(after_group) = last else {
         return Ok(None);
     };
     let Some(key) = parse_number(key) else {
@@ -151,13 +153,26 @@ fn parse_groups(rest: Option<&[u8]>) -> Option<Command>
     })
 }
 
-// G, or G S
 fn parse_group(rest: Option<&[u8]>) -> Option<Command>
     ensures { ReadsAfter (codes "group") (option_copied rest.entry) result }
 {
-    let (group, rest) = first_piece(rest?);
-    let group = parse_number(group)?;
-    let stamp = parse_stamp(rest)?;
+    match rest {
+        Some(text) => parse_group_text(text),
+        None => None,
+    }
+}
+
+// G, or G S
+fn parse_group_text(text: &[u8]) -> Option<Command>
+    ensures { ReadsAfter (codes "group") (Some text.now) result }
+{
+    let (digits, after) = first_piece(text);
+    let Some(group) = parse_number(digits) else {
+        return None;
+    };
+    let Some(stamp) = parse_stamp(after) else {
+        return None;
+    };
     Some(Command::Ask {
         question: Question::Group(group),
         stamp,

@@ -19,11 +19,7 @@ fn push_number(out: &mut Vec<u8>, number: u64) -> Result<(), AllocationError>
 }
 
 /// These words and a number, on a line.
-pub fn number_line(
-    alloc: Global,
-    words: &[u8],
-    number: u64,
-) -> Result<Vec<u8>, AllocationError>
+pub fn number_line(alloc: Global, words: &[u8], number: u64) -> Result<Vec<u8>, AllocationError>
     ensures ok { IfOk result (λ line. line.items ≡ number_line words.now number) }
     ensures memory { IfErr result (λ error. error ≡ AllocationError.Memory) }
 {

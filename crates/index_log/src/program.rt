@@ -1,9 +1,9 @@
 //! The call that `main` makes.
 
-ghost use Rattle.std.specs.Prelude.{◌≡◌, ◌≤◌, map, string_bytes, IfSome, IsNone};
+ghost use Rattle.std.specs.Prelude.{◌≡◌, ◌≤◌, length, map, string_bytes, IfSome, IsNone};
 ghost use Rattle.stabby_tables.specs.Pieces.{lines_of};
 ghost use Rattle.stabby_intern.specs.Messages.{IsTold};
-ghost use Rattle.stabby_intern.specs.Runs.{sink_of};
+ghost use Rattle.stabby_intern.specs.Runs.{sink_of, input_limit};
 ghost use Rattle.index_log.specs.Keeps.{IsKeep, IsNoKeep};
 ghost use Rattle.index_log.specs.Runs.{Says, Comes, Ends, LineEnds, run_of};
 ghost use Rattle.index_log.specs.Sessions.{state_of};
@@ -110,15 +110,16 @@ fn obey_all<H: Wait, K: Sink>(
     text: &[u8],
     out: &mut K,
 ) -> Status
+    requires { length text.now ≤ input_limit }
     ensures { Ends (state_of session.old) (lines_of text.now) (sink_of K.Sink out.old out.new) result }
 {
     let mut rest = text;
     let mut number: u64 = 1;
     while !rest.is_empty() {
         let (line, others) = first_line(rest);
-        let status = obey_line(rt, alloc, session, line, number, out);
-        if status != Status::Ok {
-            return status;
+        match obey_line(rt, alloc, session, line, number, out) {
+            Status::Ok => {}
+            status => return status,
         }
         rest = others;
         number += 1;

@@ -1,6 +1,6 @@
 //! An index, its pass, and the changes that wait for a commit.
-ghost use Rattle.std.specs.Prelude.{◌≡◌, ◌≤◌, ◌+◌, ◌++◌, ◌∷◌, [], IfOk, IfErr, length, codes};
-ghost use Rattle.stabby_cell.specs.Passes.{IsWhole};
+ghost use Rattle.std.specs.Prelude.{◌≡◌, ◌≤◌, ◌+◌, ◌++◌, ◌∷◌, [], IfOk, IfErr, OnOk, length, codes};
+ghost use Rattle.stabby_cell.specs.Passes.{IsWhole, front_of};
 ghost use Rattle.stabby_index.specs.Passes.{IsPassOf};
 
 use crate::command::{Command, Question};
@@ -64,16 +64,14 @@ impl Session {
         }
     }
 
-    // Commits the pending changes. The index is never full: that wants more commits than an input has bytes.
+    // Commits the pending changes.
     fn commit<H: Wait>(&mut self, rt: &H, alloc: Global) -> Result<Vec<u8>, AllocationError>
         ensures obeys { IfOk result (λ printed. Obeys self.old self.new Command.Commit printed.items) }
         ensures memory { IfErr result (λ error. error ≡ AllocationError.Memory) }
     {
         let changes = mem::replace(&mut self.pending, Vec::new(alloc));
-        match self.index.apply(rt, alloc, &mut self.pass, &changes, None) {
-            Ok(stamp) => number_line(alloc, b"stamp ", stamp),
-            Err(_) => Err(AllocationError::Memory),
-        }
+        let stamp = commit_changes(rt, alloc, &self.index, &mut self.pass, &changes)?;
+        number_line(alloc, b"stamp ", stamp)
     }
 
     // What the version of that stamp, or the newest, answers.
@@ -96,5 +94,28 @@ impl Session {
             Some(view) => answer(alloc, &view, question),
             None => number_line(alloc, b"not kept ", stamp),
         }
+    }
+}
+
+// Commits these changes by a whole pass, and answers the stamp. The index is never full: that wants more commits than an
+// input has bytes.
+fn commit_changes<H: Wait>(
+    rt: &H,
+    alloc: Global,
+    index: &Index,
+    pass: &mut IndexPass,
+    changes: &[Change],
+) -> Result<u64, AllocationError>
+    requires own { IsPassOf index.now pass.old }
+    requires whole { IsWhole pass.old }
+    ensures pass { IsPassOf index.now pass.new }
+    ensures whole { IsWhole pass.new }
+    ensures front { OnOk result (front_of pass.new ≡ front_of pass.old ++ changes.now ∷ []) }
+    ensures stamp { IfOk result (λ stamp. stamp ≡ length (front_of pass.old) + 1) }
+    ensures memory { IfErr result (λ error. error ≡ AllocationError.Memory) }
+{
+    match index.apply(rt, alloc, pass, changes, None) {
+        Ok(stamp) => Ok(stamp),
+        Err(_) => Err(AllocationError::Memory),
     }
 }
