@@ -1,0 +1,5 @@
+pub mod Texts
+pub mod Reading
+pub mod Whole
+pub mod Obeying
+pub mod Endings
