@@ -34,7 +34,13 @@ fn refused(alloc: Global, words: &[u64]) -> Option<UnpackFault> {
 #[test]
 fn tables_that_are_no_texts(rt: HostRuntime) {
     assert!(rt; refused(rt.alloc(), &[]) == Some(UnpackFault::NoLength));
-    assert!(rt; refused(rt.alloc(), &[9, 1]) == Some(UnpackFault::Length { stated: 9, words: 1 }));
+    assert!(rt;
+        refused(rt.alloc(), &[9, 1])
+            == Some(UnpackFault::Length {
+                stated: 9,
+                words: 1
+            })
+    );
     assert!(rt; refused(rt.alloc(), &[1, 16705]) == Some(UnpackFault::Padding));
     assert!(rt; refused(rt.alloc(), &[1, 255]) == Some(UnpackFault::Utf8));
 }

@@ -12,7 +12,8 @@ const TEXT: &str = "To be, or not to be: be_ is_2 be\n";
 
 const COUNTS: &str = "To 1\nbe 3\nbe_ 1\nis_2 1\nnot 1\nor 1\nto 1\n";
 
-const PLACES: &str = "To 0-2\nbe 3-5 17-19 30-32\nbe_ 21-24\nis_2 25-29\nnot 10-13\nor 7-9\nto 14-16\n";
+const PLACES: &str =
+    "To 0-2\nbe 3-5 17-19 30-32\nbe_ 21-24\nis_2 25-29\nnot 10-13\nor 7-9\nto 14-16\n";
 
 // How a run ended, and whether the sink and the log took these texts.
 #[derive(Drop)]
@@ -106,6 +107,15 @@ fn no_text(rt: HostRuntime) -> Result<(), Fail> {
 #[test]
 fn no_room(rt: HostRuntime) {
     let alloc = rt.alloc();
-    let ended = run_over(&rt, alloc, "words", "1", b"a b", 5, "a 1\nb", "write fault\n");
+    let ended = run_over(
+        &rt,
+        alloc,
+        "words",
+        "1",
+        b"a b",
+        5,
+        "a 1\nb",
+        "write fault\n",
+    );
     assert!(rt; has_ended(&ended, Status::WriteFault));
 }
