@@ -1,34 +1,13 @@
 //! Packed texts at stated words.
-use stabby_layout::Text;
-use stabby_registry::WordTable;
-use stabby_symbol::{UnpackFault, pack, unpack};
-use std::alloc::Global;
+use crate::fixtures::{is_packed, refused, unpacked};
+use stabby_symbol::UnpackFault;
 use std::test::Fail;
-
-fn is_packed(alloc: Global, text: &str, words: &[u64]) -> bool {
-    match pack(alloc, text) {
-        Ok(table) => table.words() == words,
-        Err(_) => false,
-    }
-}
 
 #[test]
 fn packed_texts(rt: HostRuntime) {
     assert!(rt; is_packed(rt.alloc(), "", &[0]));
     assert!(rt; is_packed(rt.alloc(), "abcdefgh", &[8, 7523094288207667809]));
     assert!(rt; is_packed(rt.alloc(), "é", &[2, 43459]));
-}
-
-fn unpacked(alloc: Global, words: &[u64]) -> Result<Text, UnpackFault> {
-    let table = WordTable::from_words(alloc, words)?;
-    unpack(alloc, &table)
-}
-
-fn refused(alloc: Global, words: &[u64]) -> Option<UnpackFault> {
-    match unpacked(alloc, words) {
-        Ok(_) => None,
-        Err(fault) => Some(fault),
-    }
 }
 
 #[test]
