@@ -202,6 +202,13 @@ packed_bytes text u = bytes_words (words_for (length text)) text (utf8_bytes tex
 pub packed_back : (text : List ℕ) → IsUtf8 text → take (length text) (bytes_in (words_of (words_for (length text)) text)) ≡ text
 packed_back text u = ap (take (length text)) (packed_bytes text u) ∙ take_front text (zeros (8 * words_for (length text) - length text))
 
+-- texts with one table are one text
+pub one_text : (s t : List ℕ) → IsUtf8 s → IsUtf8 t → packed s ≡ packed t → s ≡ t
+one_text s t u v e =
+    let n : length s ≡ length t = cc in
+    let w : words_of (words_for (length s)) s ≡ words_of (words_for (length t)) t = cc in
+    sym (packed_back s u) ∙ (λ i. take (n i) (bytes_in (w i))) ∙ packed_back t v
+
 pub packed_passes : (text : List ℕ) → IsUtf8 text → unpack_fault (packed text) ≡ None
 packed_passes text u =
     let k = 8 * words_for (length text) - length text in
@@ -234,13 +241,6 @@ passed_packed s ws small e =
     let p0 = p.0 in
     let n : length ws ≡ words_for s = grind (arith, nat_tests) in
     record { utf8 = u; is = packed_if s ws (take s (bytes_in ws)) small n refl (utf8_bytes (take s (bytes_in ws)) u) p.1.0 }
-
--- texts with one table are one text
-pub one_text : (s t : List ℕ) → IsUtf8 s → IsUtf8 t → packed s ≡ packed t → s ≡ t
-one_text s t u v e =
-    let n : length s ≡ length t = cc in
-    let w : words_of (words_for (length s)) s ≡ words_of (words_for (length t)) t = cc in
-    sym (packed_back s u) ∙ (λ i. take (n i) (bytes_in (w i))) ∙ packed_back t v
 
 pub none_exactly_packed : (table : List ℕ) → ((i : ℕ) → slice_index table i < 2 ^ 64) → (unpack_fault table ≡ None) ↔ ((text : List ℕ) × IsUnpacked table text)
 none_exactly_packed [] small = (λ e. absurd cc, λ x. let q = x.1.is in absurd cc)

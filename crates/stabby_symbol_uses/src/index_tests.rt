@@ -30,9 +30,24 @@ fn words_of_a_text(rt: HostRuntime) -> Result<(), Fail> {
         return Err("two words")?;
     };
     assert!(rt; is_word(first, "a", 2, &[Span { from: 2, to: 3 }]));
-    assert!(rt; is_word(second, "b", 1, &[Span { from: 0, to: 1 }, Span { from: 4, to: 5 }]));
+    assert!(rt;
+        is_word(
+            second,
+            "b",
+            1,
+            &[Span { from: 0, to: 1 }, Span { from: 4, to: 5 }]
+        )
+    );
     let fault = text_of(&rt, alloc, &registry, &mut pass, 0);
-    assert!(rt; matches!(fault, Err(UnpackFault::Length { stated: 5, words: 0 })));
+    assert!(rt;
+        matches!(
+            fault,
+            Err(UnpackFault::Length {
+                stated: 5,
+                words: 0
+            })
+        )
+    );
     let Ok(Some(text)) = text_of(&rt, alloc, &registry, &mut pass, 1) else {
         return Err("number 1 was given")?;
     };

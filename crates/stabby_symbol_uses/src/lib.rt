@@ -2,8 +2,15 @@
 #![tactic(auto)]
 
 #[cfg(test)]
+mod fixtures;
+#[cfg(test)]
 mod index_tests;
 #[cfg(test)]
 mod packing_tests;
 #[cfg(test)]
+mod random_tests;
+mod reading;
+#[cfg(test)]
 mod symbol_tests;
+
+pub use reading::{numbers_of, read_back};

@@ -1,0 +1,4 @@
+pub mod Commands
+pub mod Listing
+pub mod Runs
+pub mod Statuses
