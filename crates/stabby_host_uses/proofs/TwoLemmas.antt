@@ -9,7 +9,7 @@ use Rattle.stabby_dyn.specs.declared.member.Any as Any
 use Rattle.stabby_dyn.specs.declared.member.Universe as Universe
 use Rattle.stabby_host.specs.Answers.{EndsPlugin, Unloads, UnloadsLive}
 use Rattle.stabby_host.specs.Hosts.{HasLoaded, plugins_of}
-use Rattle.stabby_host.specs.Plugins.{BindsFirst, NeedsPlugin, bound_of, value_of}
+use Rattle.stabby_host.specs.Plugins.{BindsFirst, IsBoundTo, NeedsPlugin, bound_of, value_of}
 use Rattle.stabby_host.specs.declared.faults.UnloadFault.{UnloadFault}
 use Rattle.stabby_host.specs.declared.faults.UnloadFault.TheVariants.{Needed}
 use Rattle.stabby_host.specs.declared.host.Host.{Host}
@@ -34,10 +34,10 @@ module _ {U : Type 0} (id : U → ℕ) (report : U → Report) where
       ap (λ (n : ℕ). n ∷ []) (same ∙ none)
 
 module _ {U : Type 0} {u : Universe.Ghosts U} {a : Any.Ghosts U} (id : U → ℕ) (report : U → Report) where
-  pub two_loaded : (empty one two : Host U u a) (number other : U) (words more : List ℕ) (needs : List Need) (n m : ℕ) → plugins_of empty ≡ []
-      → HasLoaded id report empty one number words [] n → HasLoaded id report one two other more needs m → length needs ≡ 1
+  pub two_loaded : (empty one two : Host U u a) (number other : U) (words more : List ℕ) (nothing needs : List Need) (n m : ℕ) → plugins_of empty ≡ [] → nothing ≡ []
+      → HasLoaded id report empty one number words nothing n → HasLoaded id report one two other more needs m → length needs ≡ 1
       → IsTwo (plugins_of two) number other
-  two_loaded empty one two number other words more needs n m none first second single =
+  two_loaded empty one two number other words more nothing needs n m none no_needs first second single =
       let alone : plugins_of one ≡ Live first.plugin ∷ [] = first.plugins ∙ ap (λ l. l ++ Live first.plugin ∷ []) none in
       let binds = subst (λ (l : List (Plugin U)). BindsFirst id report needs l (length needs) (bound_of second.plugin)) alone second.bound in
       record {
@@ -48,8 +48,8 @@ module _ {U : Type 0} {u : Universe.Ghosts U} {a : Any.Ghosts U} (id : U → ℕ
         second_value = second.value_is;
         first_sole = first.sole;
         second_sole = second.sole;
-        needs_none = nil_from_length (bound_of first.plugin) first.bound.count_is;
-        needs_first = bound_to_first id report needs second.plugin (bound_of second.plugin) ? single;
+        needs_none = nil_from_length (bound_of first.plugin) (first.bound.count_is ∙ ap length no_needs);
+        needs_first = bound_to_first id report needs first.plugin (bound_of second.plugin) binds single;
       }
 
 module _ {U : Type 0} where
@@ -73,7 +73,11 @@ module _ {U : Type 0} where
       (ap Err (by.1 ∙ ap Needed (only_second p q by.0 by.2.needs)), says.1)
 
   none_need_second : (p q : Loaded U) (by : ℕ) → bound_of p ≡ [] → NeedsPlugin (Live p ∷ Live q ∷ []) 1 by → ⊥
-  none_need_second p q zero none needs = ?
+  none_need_second p q zero none needs =
+      let at = needs.1 in
+      let is : Live p ≡ needs.0 = cc in
+      let has : Contains (bound_of p) 1 = subst (IsBoundTo 1) (sym is) needs.2 in
+      absurd (omega (arith, has.1, ap length none))
   none_need_second p q (suc zero) none needs = absurd (needs.3 refl)
   none_need_second p q (suc (suc by)) none needs = let e = needs.1 in cc
 
@@ -88,7 +92,10 @@ module _ {U : Type 0} where
 
   none_need_first : (p : Loaded U) (left : Option Spent) (by : ℕ) → NeedsPlugin (Live p ∷ Ended left ∷ []) 0 by → ⊥
   none_need_first p left zero needs = absurd (needs.3 refl)
-  none_need_first p left (suc zero) needs = ?
+  none_need_first p left (suc zero) needs =
+      let at = needs.1 in
+      let is : Ended left ≡ needs.0 = cc in
+      absurd (subst (IsBoundTo 0) (sym is) needs.2)
   none_need_first p left (suc (suc by)) needs = let e = needs.1 in cc
 
   -- and then the first
@@ -96,3 +103,23 @@ module _ {U : Type 0} where
       → UnloadsLive 0 p (Live p ∷ Ended left ∷ []) after answer → answer ≡ Ok (Some (value_of p))
   first_given p left after (Err fault) sole says = absurd (none_need_first p left says.0.0 says.0.2.needs)
   first_given p left after (Ok given) sole says = let ends = says.1 in ap Ok (sure given (value_of p) (ends.sole sole) ends.value)
+
+  pub record InOrder (number other : U) (refused last first : Result (Option U) UnloadFault) : Type 0 where
+    pub refused_is : refused ≡ Err (Needed 1)
+    pub last_is : last ≡ Ok (Some other)
+    pub first_is : first ≡ Ok (Some number)
+
+  pub in_order : (l0 l1 l2 l3 : List (Plugin U)) (number other : U) (refused last first : Result (Option U) UnloadFault) → IsTwo l0 number other
+      → Unloads 0 l0 l1 (slice_get l0 0) refused → Unloads 1 l1 l2 (slice_get l1 1) last → Unloads 0 l2 l3 (slice_get l2 0) first
+      → InOrder number other refused last first
+  in_order l0 l1 l2 l3 number other refused last first two says then_says at_last =
+      let p = two.first in
+      let q = two.second in
+      let one = first_refused p q l1 refused two.needs_first (subst (λ (l : List (Plugin U)). Unloads 0 l l1 (slice_get l 0) refused) two.are says) in
+      let next = second_given p q l2 last two.needs_none two.second_sole (subst (λ (l : List (Plugin U)). Unloads 1 l l2 (slice_get l 1) last) one.1 then_says) in
+      let end = first_given p next.0 l3 first two.first_sole (subst (λ (l : List (Plugin U)). Unloads 0 l l3 (slice_get l 0) first) next.2 at_last) in
+      record {
+        refused_is = one.0;
+        last_is = next.1 ∙ ap (λ (x : U). Ok (Some x)) two.second_value;
+        first_is = end ∙ ap (λ (x : U). Ok (Some x)) two.first_value;
+      }
