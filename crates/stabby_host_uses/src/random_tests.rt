@@ -154,9 +154,11 @@ fn load_both(
             model.plugins.push(loaded).map_err(|_| "memory")?;
             Ok(right)
         }
-        Err((slot, needs, fault)) => Ok(expected == Err(fault)
-            && holds(&slot, plugin.kind, plugin.value)
-            && needs.len() as u64 == u64::from(need.is_some())),
+        Err((slot, needs, fault)) => Ok(
+            expected == Err(fault)
+                && holds(&slot, plugin.kind, plugin.value)
+                && needs.len() as u64 == u64::from(need.is_some()),
+        ),
     }
 }
 
