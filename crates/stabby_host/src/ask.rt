@@ -54,7 +54,8 @@ impl<U: Universe> Host<U> {
     /// exactly where it is live and the id or the report of its value is not that of `X`.
     pub fn interface<X: Member<U>>(&self, plugin: u64) -> Result<&X, AskFault>
         ensures { Answers (slice_get (plugins_of self.now) plugin) result
-            (λ p r. HasType U.type_id U.type_report X.stated_id X.stated_report p × (X.content (value_of p) ≡ Some r.now))
+            (λ p r. HasType U.type_id U.type_report X.stated_id X.stated_report p
+            × (X.content (value_of p) ≡ Some r.now))
             (λ p fault. ¬ (HasType U.type_id U.type_report X.stated_id X.stated_report p)
             × (fault ≡ Differs (U.type_id (value_of p)) X.stated_id)) }
     {
@@ -69,7 +70,8 @@ impl<U: Universe> Host<U> {
     /// # Errors
     /// `Unknown`, `Ended`.
     pub fn table(&self, plugin: u64) -> Result<u64, AskFault>
-        ensures number { Answers (slice_get (plugins_of self.now) plugin) result (λ p n. IsNumberOf (tables_of self.now) p n) (λ p fault. ⊥) }
+        ensures number { Answers (slice_get (plugins_of self.now) plugin) result
+            (λ p n. IsNumberOf (tables_of self.now) p n) (λ p fault. ⊥) }
         ensures same { (n m : ℕ) (p q : _) → IsLiveAt (plugins_of self.now) n p → IsLiveAt (plugins_of self.now) m q
             → (number_of p ≡ number_of q) ↔ (table_of p ≡ table_of q) }
     {
@@ -84,7 +86,8 @@ impl<U: Universe> Host<U> {
     /// # Errors
     /// `Unknown`, `Ended`.
     pub fn bound(&self, plugin: u64) -> Result<&[u64], AskFault>
-        ensures numbers { Answers (slice_get (plugins_of self.now) plugin) result (λ p r. r.now ≡ bound_of p) (λ p fault. ⊥) }
+        ensures numbers { Answers (slice_get (plugins_of self.now) plugin) result
+            (λ p r. r.now ≡ bound_of p) (λ p fault. ⊥) }
         ensures live { (n m : ℕ) (p : _) → IsLiveAt (plugins_of self.now) n p → Contains (bound_of p) m
             → (q : _) × IsLiveAt (plugins_of self.now) m q }
     {
@@ -97,8 +100,8 @@ impl<U: Universe> Host<U> {
     /// The plugin's value with a table, where the words that the table lists are the plugin's.
     ///
     /// # Errors
-    /// `Ask` with `Unknown` or `Ended`; `OtherTable` exactly where the words are others, with the number of the plugin's
-    /// table; `Memory`.
+    /// `Ask` with `Unknown` or `Ended`; `OtherTable` exactly where the words are others, with the number of the
+    /// plugin's table; `Memory`.
     pub fn view<Vt: ListsWords + Drop>(
         &self,
         alloc: Global,

@@ -39,7 +39,8 @@ impl<U: Universe> Host<U> {
     /// # Errors
     /// `Ask` with `Unknown` or `Ended`; `Full` where the weak count is at its limit of 2^32 - 1; `Memory`.
     pub fn guest<R: Wait>(&mut self, rt: &R, plugin: u64) -> Result<Weak<U>, GuestFault>
-        ensures guest { Guests plugin (plugins_of self.old) (plugins_of self.new) (slice_get (plugins_of self.old) plugin) result }
+        ensures guest { let before = plugins_of self.old in
+            Guests plugin before (plugins_of self.new) (slice_get before plugin) result }
         ensures tables { tables_of self.new ≡ tables_of self.old }
         ensures limit { limit_of self.new ≡ limit_of self.old }
     {

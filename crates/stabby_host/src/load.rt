@@ -25,9 +25,9 @@ impl<U: Universe> Host<U> {
     /// plugin that meets it. The words that `vtable` lists are its table.
     ///
     /// # Errors
-    /// The value and the needs come back, and plugins and registry are as before. In order: `Full` exactly where as many
-    /// are live as the limit allows; `Exhausted` exactly where 4,294,967,295 were loaded; `Unmet` exactly where no live
-    /// plugin meets the need at this place, the first such; `Memory`.
+    /// The value and the needs come back, and plugins and registry are as before. In order: `Full` exactly where as
+    /// many are live as the limit allows; `Exhausted` exactly where 4,294,967,295 were loaded; `Unmet` exactly where no
+    /// live plugin meets the need at this place, the first such; `Memory`.
     pub fn load<Vt: ListsWords>(
         &mut self,
         alloc: Global,
@@ -77,7 +77,8 @@ impl<U: Universe> Host<U> {
         ensures spare { OnOk result (vec_len self.new.plugins < vec_capacity self.new.plugins) }
         ensures table { IfOk result (λ prepared. prepared.table ≡ Vt.listed_words vtable.now) }
         ensures bound { IfOk result (λ prepared.
-            BindsFirst U.type_id U.type_report needs.now (plugins_of self.old) (length needs.now) prepared.bound.items) }
+            let count = length needs.now in
+            BindsFirst U.type_id U.type_report needs.now (plugins_of self.old) count prepared.bound.items) }
         ensures fault { IfErr result (IsLoadFault U.type_id U.type_report self.old needs.now) }
         ensures unchanged { IsSameHost self.old self.new }
     {

@@ -60,14 +60,15 @@ impl<U: Universe> Host<U> {
     ghost use Rattle.stabby_host.specs.Answers.{Unloads};
     ghost use Rattle.stabby_host.specs.Hosts.{plugins_of, tables_of, limit_of};
 
-    /// Ends the host's handle of the plugin, which takes no memory. The value comes exactly where the step of that end read
-    /// one strong handle: no guest has one.
+    /// Ends the host's handle of the plugin, which takes no memory. The value comes exactly where the step of that end
+    /// read one strong handle: no guest has one.
     ///
     /// # Errors
-    /// `Unknown` exactly where no plugin of this number was loaded; `Ended` exactly where it was unloaded; `Needed` exactly
-    /// where a live plugin other than it is bound to it, with the least such.
+    /// `Unknown` exactly where no plugin of this number was loaded; `Ended` exactly where it was unloaded; `Needed`
+    /// exactly where a live plugin other than it is bound to it, with the least such.
     pub fn unload(&mut self, plugin: u64) -> Result<Option<U>, UnloadFault>
-        ensures unload { Unloads plugin (plugins_of self.old) (plugins_of self.new) (slice_get (plugins_of self.old) plugin) result }
+        ensures unload { let before = plugins_of self.old in
+            Unloads plugin before (plugins_of self.new) (slice_get before plugin) result }
         ensures tables { tables_of self.new ≡ tables_of self.old }
         ensures limit { limit_of self.new ≡ limit_of self.old }
     {
