@@ -28,8 +28,10 @@ pub fn read_back<H: Wait>(
     match text_of(rt, alloc, registry, pass, number) {
         Ok(Some(found)) => Ok(found),
         Ok(None) => unreachable!(),
-        Err(UnpackFault::Memory) => Err(SymbolFault::Memory),
-        Err(_) => unreachable!(),
+        Err(fault) => match fault {
+            UnpackFault::Memory => Err(SymbolFault::Memory),
+            _ => unreachable!(),
+        },
     }
 }
 
