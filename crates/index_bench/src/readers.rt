@@ -192,6 +192,9 @@ pub(crate) fn read_in_threads<H: Threads + Wait + Sync>(
     count: u64,
 ) -> Option<u64> {
     let (index, pass) = filled(rt, alloc, rows, 1000)?;
+    if !pass.is_whole() {
+        return None;
+    }
     let done = AtomicU64::new(0);
     Some(all_threads(rt, alloc, &index, pass, &done, rows, writers, count))
 }

@@ -6,7 +6,6 @@ use Rattle.index_log.proofs.command.parse_row.Goals as goal
 pub returns-in_default-clause-reads : goal.returns-in_default-clause-reads
 returns-in_default-clause-reads c = no_row_short c.args.text.now c.first_piece.result.0.now (rw c.in_default.is at c.first_piece.ensures.whole) c.first_piece.ensures.no_space
 
-
 pub returns-in_default-last-clause-reads : goal.returns-in_default-last-clause-reads
 returns-in_default-last-clause-reads c =
     no_row_text c.args.text.now c.first_piece.result.0.now c.in-Some.after_key.now c.first_piece-2.result.0.now (rw c.in-Some.is at c.first_piece.ensures.whole) c.first_piece.ensures.no_space
