@@ -2,7 +2,7 @@
 use Rattle.std.proofs.Common.{◌≡◌, ◌≢◌, ℕ, zero, suc, ◌<◌, true, List, [], ◌∷◌, length, Some, refl, ap, sym, subst, ◌∙◌, arith}
 use Rattle.std.specs.Prelude.{slice_get, Contains}
 use Rattle.stabby_layout.specs.Report.{Report}
-use Rattle.stabby_dyn.specs.declared.member.Any as Any
+use Rattle.stabby_dyn.specs.declared.member.Any as erasable
 use Rattle.stabby_dyn.specs.declared.member.Universe as Universe
 use Rattle.stabby_host.proofs.Places.{read_there}
 use Rattle.stabby_host.specs.Facts.{is_live}
@@ -41,7 +41,7 @@ module _ {U : Type 0} (id : U → ℕ) (report : U → Report) where
       let same : met.0 ≡ m = sym (read_there bound has.0 met.0 m met.1) ∙ has.2 in
       subst (λ (k : ℕ). is_live (slice_get plugins k) ≡ true) same (least_is_live need.0 plugins met.0 met.2)
 
-module _ {U : Type 0} {u : Universe.Ghosts U} {a : Any.Ghosts U} (id : U → ℕ) (report : U → Report) where
+module _ {U : Type 0} {u : Universe.Ghosts U} {a : erasable.Ghosts U} (id : U → ℕ) (report : U → Report) where
   -- where there is room, needs that can't be bound are why a plugin is not loaded
   pub bind_fault : (host : Host U u a) (needs : List Need) (fault : LoadFault) → HasRoom host
       → IsBindFault id report needs (plugins_of host) fault → IsLoadFault id report host needs fault

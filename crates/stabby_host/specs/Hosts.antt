@@ -3,7 +3,7 @@ use Rattle.std.specs.Prelude.{◌≡◌, ℕ, ◌<◌, List, [], ◌∷◌, ◌+
 use Rattle.stabby_layout.specs.Report.{Report}
 use Rattle.stabby_tables.specs.Lists.{with_table}
 use Rattle.stabby_count.specs.Shared.{arc_record, IsSole}
-use Rattle.stabby_dyn.specs.declared.member.Any as Any
+use Rattle.stabby_dyn.specs.declared.member.Any as erasable
 use Rattle.stabby_dyn.specs.declared.member.Universe as Universe
 use Rattle.stabby_host.specs.Plugins.{AreMet, BindsFirst, IsFirstUnmet, IsNumberOf, bound_of, live_count, number_of, table_of, value_of}
 use Rattle.stabby_host.specs.Shelves.{shelf_tables}
@@ -15,7 +15,7 @@ use Rattle.stabby_host.specs.declared.plugin.Loaded.{Loaded}
 use Rattle.stabby_host.specs.declared.plugin.Plugin.{Plugin}
 use Rattle.stabby_host.specs.declared.plugin.Plugin.TheVariants.{Live}
 
-module _ {U : Type 0} {u : Universe.Ghosts U} {a : Any.Ghosts U} where
+module _ {U : Type 0} {u : Universe.Ghosts U} {a : erasable.Ghosts U} where
   -- the plugins in the order of loading: a plugin's number is its place
   abbrev pub plugins_of : Host U u a → List (Plugin U)
   plugins_of host = host.plugins.items

@@ -5,7 +5,7 @@ use Rattle.std.proofs.lemmas.List.{nil_from_length}
 use Rattle.stabby_layout.specs.Report.{Report}
 use Rattle.stabby_count.specs.Shared.{IsSole}
 use Rattle.stabby_count.specs.declared.spent.Spent.{Spent}
-use Rattle.stabby_dyn.specs.declared.member.Any as Any
+use Rattle.stabby_dyn.specs.declared.member.Any as erasable
 use Rattle.stabby_dyn.specs.declared.member.Universe as Universe
 use Rattle.stabby_host.specs.Answers.{EndsPlugin, Unloads, UnloadsLive}
 use Rattle.stabby_host.specs.Hosts.{HasLoaded, plugins_of}
@@ -33,7 +33,7 @@ module _ {U : Type 0} (id : U → ℕ) (report : U → Report) where
       let same : b ≡ met.0 = let e = met.1 in cc in
       ap (λ (n : ℕ). n ∷ []) (same ∙ none)
 
-module _ {U : Type 0} {u : Universe.Ghosts U} {a : Any.Ghosts U} (id : U → ℕ) (report : U → Report) where
+module _ {U : Type 0} {u : Universe.Ghosts U} {a : erasable.Ghosts U} (id : U → ℕ) (report : U → Report) where
   pub two_loaded : (empty one two : Host U u a) (number other : U) (words more : List ℕ) (nothing needs : List Need) (n m : ℕ) → plugins_of empty ≡ [] → nothing ≡ []
       → HasLoaded id report empty one number words nothing n → HasLoaded id report one two other more needs m → length needs ≡ 1
       → IsTwo (plugins_of two) number other
