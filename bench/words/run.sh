@@ -3,10 +3,15 @@
 # outputs beside what oracle.py prints. Run it anywhere: bench/words/run.sh [RUNS]. It needs rt, rustc, python3 and bash; it
 # builds the proved program first.
 set -eu
-. "$(dirname "$0")/../build.sh"
 here="$(cd "$(dirname "${BASH_SOURCE[0]}")" && pwd)"
+top="$(cd "$here/../.." && pwd)"
 runs="${1:-5}"
-build_both word_index words/words.rs
+build=$(mktemp -d)
+trap 'rm -r "$build"' EXIT
+(cd "$top/crates/word_index" && rt run -- words 1 </dev/null >/dev/null 2>"$build/log") || { cat "$build/log"; exit 1; }
+ours=$top/crates/word_index/out/word_index
+theirs=$build/theirs
+rustc --edition 2024 -C opt-level=3 -C target-cpu=x86-64-v2 -o "$theirs" "$here/words.rs"
 rustc --edition 2024 -C opt-level=3 -o "$build/measure" "$top/bench/measure.rs"
 texts="$build/texts"
 mkdir "$texts"
@@ -22,6 +27,7 @@ def text(path, distinct, count):
             out.write(" ".join(source.choices(words, weights, k=12)) + "\n")
 text(sys.argv[1] + "/few_words", 200, 600_000)
 text(sys.argv[1] + "/many_words", 2_000, 600_000)
+text(sys.argv[1] + "/rare_words", 20_000, 60_000)
 PYTHON
 for text in "$texts"/*; do
     python3 "$here/oracle.py" index "$text" >"$build/told"

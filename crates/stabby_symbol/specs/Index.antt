@@ -1,5 +1,7 @@
 -- The words of a text under their numbers.
-use Rattle.std.specs.Prelude.{◌≡◌, ◌↔◌, ◌<◌, ℕ, List, [], ◌∷◌, ◌++◌, length, map, filter, Option, Some, None}
+use Rattle.std.specs.Prelude.{◌≡◌, ◌↔◌, ◌<◌, ℕ, List, [], ◌∷◌, ◌++◌, length, map, filter, Option, Some, None, if◌then◌else◌}
+use denote.Ref.{Bor}
+use Rattle.std.specs.BTreeMap.{BTreeMap, get_by}
 use Rattle.std.specs.List.{All, AllPairs, Any, Contains}
 use Rattle.std.specs.Ordering.{nat_cmp}
 use Rattle.std.specs.declared.cmp.Ordering.TheVariants.{Less}
@@ -66,3 +68,20 @@ entry_at number word (span ∷ spans) = Some (indexed number word (span ∷ span
 abbrev pub with_span : Option IndexedWordValue → List ℕ → ℕ → Span → IndexedWordValue
 with_span None word symbol span = record { text = word; symbol = symbol; spans = span ∷ [] }
 with_span (Some found) word symbol span = record { text = found.text; symbol = found.symbol; spans = found.spans ++ span ∷ [] }
+
+-- words by their bytes, as the call gathers them
+abbrev pub WordMap : Type 0
+WordMap = BTreeMap (Bor (List ℕ)) IndexedWordValue
+
+abbrev pub found_in : WordMap → List ℕ → Option IndexedWordValue
+found_in words q = get_by (λ k. slice_cmp nat_cmp q k.now) words
+
+-- the word has one more span, or is new with it; each other is as before
+abbrev pub PutsSpan : WordMap → WordMap → List ℕ → ℕ → Span → Type 0
+PutsSpan before after word symbol span = (q : List ℕ) → found_in after q
+    ≡ (if bytes_eq word q then Some (with_span (found_in before word) word symbol span) else found_in before q)
+
+-- where words have these numbers by a rule, each has its number and its spans
+abbrev pub GathersSpans : List ℕ → List Span → List ℕ → WordMap → Type 0
+GathersSpans source spans numbers words = (number : List ℕ → ℕ) → numbers ≡ map (λ span. number (word_at source span)) spans
+    → (q : List ℕ) → found_in words q ≡ entry_at number q (spans_of source spans q)

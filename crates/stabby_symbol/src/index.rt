@@ -1,13 +1,12 @@
 //! The words of a source under their numbers.
-ghost use Rattle.std.specs.Prelude.{◌≡◌, ◌≤◌, ◌<◌, ◌+◌, ◌-◌, ◌^◌, ◌⊎◌, ℕ, List, length, map, Some, None, if◌then◌else◌, IfOk, IfErr, OnOk, OnErr};
+ghost use Rattle.std.specs.Prelude.{◌≡◌, ◌≤◌, ◌<◌, ◌+◌, ◌-◌, ◌^◌, ◌⊎◌, length, None, IfOk, IfErr, OnOk, OnErr};
 ghost use Rattle.std.specs.List.{All};
 ghost use Rattle.std.specs.Ordering.{nat_cmp};
 ghost use Rattle.std.specs.Cmp.Lexicographic.{slice_cmp};
-ghost use Rattle.std.specs.Str.{bytes_eq};
-ghost use Rattle.std.specs.BTreeMap.{get_by, values, IsOrdered};
+ghost use Rattle.std.specs.BTreeMap.{values, IsOrdered};
 ghost use Rattle.stabby_registry.specs.Passes.{IsPassOf, IsWhole, GoesOn, front_of};
 ghost use Rattle.stabby_symbol.specs.Words.{IsWordSpan, word_at};
-ghost use Rattle.stabby_symbol.specs.Index.{IsIndexOf, AppendsWords, AppendsSomeWords, tables_at, spans_of, entry_at, with_span};
+ghost use Rattle.stabby_symbol.specs.Index.{IsIndexOf, AppendsWords, AppendsSomeWords, tables_at, with_span, PutsSpan, GathersSpans};
 
 use crate::packing::pack;
 use crate::words::{Span, word_spans};
@@ -137,9 +136,7 @@ fn put_span<'a>(
     symbol: u64,
     span: Span,
 ) -> Result<(), AllocationError>
-    ensures ok { OnOk result ((q : List ℕ) → get_by (λ k. slice_cmp nat_cmp q k.now) words.new
-        ≡ (if bytes_eq word.now q then Some (with_span (get_by (λ k. slice_cmp nat_cmp word.now k.now) words.old) word.now symbol span)
-        else get_by (λ k. slice_cmp nat_cmp q k.now) words.old)) }
+    ensures ok { OnOk result (PutsSpan words.old words.new word.now symbol span) }
     ensures memory { IfErr result (λ error. error ≡ AllocationError.Memory) }
 {
     match words.get_mut(&word) {
@@ -161,8 +158,7 @@ fn by_word<'a>(
 ) -> Result<BTreeMap<&'a str, IndexedWord>, AllocationError>
     requires words { All (IsWordSpan source.now) spans.now }
     requires long { length numbers.now ≡ length spans.now }
-    ensures ok { IfOk result (λ words. (number : List ℕ → ℕ) → numbers.now ≡ map (λ span. number (word_at source.now span)) spans.now
-        → (q : List ℕ) → get_by (λ k. slice_cmp nat_cmp q k.now) words ≡ entry_at number q (spans_of source.now spans.now q)) }
+    ensures ok { IfOk result (λ words. GathersSpans source.now spans.now numbers.now words) }
     ensures memory { IfErr result (λ error. error ≡ AllocationError.Memory) }
 {
     let mut words = BTreeMap::new(alloc);
