@@ -2,11 +2,11 @@
 # Prints microseconds of a read of one group and of a filter of all rows, of a commit of 1 and of 100 changes, and of a read
 # on 3 threads with a writer and without, by `index_bench` and by plain Rust, and their ratios. Run it anywhere:
 # bench/index/run.sh. It needs rt, rustc, python3 and bash; it builds the proved program first.
-#   ROWS, GROUPS: how many rows and groups (100000 and 1000 if left out).
+#   ROWS, WIDTH: how many rows and groups (100000 and 1000 if left out).
 #   RUNS: how often each is run, in turns with the others; the best counts (5 if left out).
 set -eu
 . "$(dirname "$0")/../build.sh"
-rows=${ROWS:-100000} groups=${GROUPS:-1000} runs=${RUNS:-5}
+rows=${ROWS:-100000} groups=${WIDTH:-1000} runs=${RUNS:-5}
 build_both index_bench index/plain.rs
 
 # microseconds of wall time and of processor time of one run of the program after the order
