@@ -271,7 +271,7 @@ fn plain_by(x: u64) -> Plain {
 fn number_by(x: u64, loaded: u64) -> u64 {
     let back = x / 2 % 10;
     if x % 2 == 0 || loaded < back {
-        x / 2 % (loaded + 1)
+        x / 2 % loaded.max(1)
     } else {
         loaded - back
     }
