@@ -69,13 +69,16 @@ class Ended:
 
 def run(words, given=b"", env=None, before=None, **files):
     """Runs a program on these words and this input; `before` runs in the new process, in front of the program."""
-    if "stdin" not in files:
-        files["input"] = given
     files.setdefault("stdout", subprocess.PIPE)
+    # From a file, so that each run reads the same pieces.
+    path = f"{WORK}/given"
+    with open(path, "wb") as file:
+        file.write(given)
     try:
-        done = subprocess.run(
-            words, stderr=subprocess.PIPE, env={**os.environ, **(env or {})}, preexec_fn=before, timeout=SECONDS, **files
-        )
+        with open(path, "rb") as file:
+            done = subprocess.run(
+                words, stdin=file, stderr=subprocess.PIPE, env={**os.environ, **(env or {})}, preexec_fn=before, timeout=SECONDS, **files
+            )
     except subprocess.TimeoutExpired:
         return Ended(None, b"", b"")
     return Ended(done.returncode, done.stdout or b"", done.stderr)
