@@ -1,10 +1,8 @@
 //! Devices that fail at each of their calls in turn, and lists that are all alike.
 
-ghost use Rattle.std.specs.Prelude.{◌<◌, length};
-
 use crate::run_fresh;
 use stabby_intern::{MemorySink, MemorySource, Status};
-use stabby_registry::{AllocationError, Interned, OpenGate, VtBtree, WordTable, intern_all};
+use stabby_registry::{OpenGate, VtBtree, WordTable, intern_all};
 use std::alloc::Global;
 use std::marker::Sync;
 use std::sync::Wait;
@@ -142,37 +140,6 @@ fn ten_thousand_empty_tables(rt: HostRuntime) -> Result<(), Fail> {
     assert_eq!(rt; interned.numbers().len(), 10_000);
     for number in interned.numbers() {
         assert_eq!(rt; *number, 0);
-    }
-    Ok(())
-}
-
-// The numbers of the tables, at once or at the second try after a refusal, over the same registry and tables.
-fn interned_again<H: Threads + Wait + Sync>(
-    rt: &H,
-    alloc: Global,
-    tables: &[WordTable],
-) -> Result<Interned, AllocationError>
-    requires { length tables.now < 1000 }
-{
-    let (mut registry, mut pass) = VtBtree::<5>::new(alloc)?;
-    let first = intern_all(rt, alloc, &mut registry, &mut pass, tables, 2, &OpenGate);
-    if first.is_ok() || pass.seen() > 1000 {
-        return first;
-    }
-    intern_all(rt, alloc, &mut registry, &mut pass, tables, 2, &OpenGate)
-}
-
-// It passes also where any one request for memory of the interning is refused, which `checks/memory` tries.
-#[test]
-fn interned_again_after_a_refusal(rt: HostRuntime) -> Result<(), Fail> {
-    let alloc = rt.alloc();
-    let mut tables = Vec::new(alloc);
-    tables.push(WordTable::from_words(alloc, &[3])?)?;
-    tables.push(WordTable::from_words(alloc, &[])?)?;
-    let interned = interned_again(&rt, alloc, &tables)?;
-    assert_eq!(rt; interned.entries().len(), 2);
-    for entry in interned.entries() {
-        assert!(rt; interned.numbers().contains(&entry.number()));
     }
     Ok(())
 }
