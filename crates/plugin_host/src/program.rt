@@ -1,6 +1,6 @@
 //! The call that `main` makes.
 
-ghost use Rattle.std.specs.Prelude.{◌≡◌, ◌≤◌, length, IfOk, IfErr};
+ghost use Rattle.std.specs.Prelude.{◌≡◌, ◌≤◌, [], length, map, string_bytes, IfOk, IfErr};
 ghost use Rattle.stabby_tables.specs.Pieces.{lines_of};
 ghost use Rattle.stabby_intern.specs.Messages.{IsTold};
 ghost use Rattle.stabby_intern.specs.Runs.{input_limit};
@@ -76,7 +76,7 @@ fn play_input<R: Wait, S: Source, K: Sink>(
     source: &mut S,
     out: &mut K,
 ) -> Status
-    requires { length words.now ≡ 0 }
+    requires { map string_bytes words.now ≡ [] }
     ensures { Says (run_of S.Source K.Sink words.now source.old source.new out.old out.new) result }
 {
     let text = match read_to_end(alloc, source) {

@@ -1,8 +1,8 @@
 //! Lines of a script.
 
-ghost use Rattle.std.specs.Prelude.{◌≡◌, ℕ, IfSome, IsNone, Option, codes};
+ghost use Rattle.std.specs.Prelude.{◌≡◌, ◌<◌, ◌↔◌, ℕ, IfSome, IsNone, IsTrue, Option, codes};
 ghost use Rattle.std.specs.Option.{option_copied};
-ghost use Rattle.plugin_host.specs.Lines.{name_of, Reads, ReadsAfter, ReadsNeed, SpellsNeedText, SpellsValue, SpellsLoad, SpellsAsk};
+ghost use Rattle.plugin_host.specs.Lines.{name_of, end_of, Reads, ReadsAfter, ReadsNeed, SpellsNeedText, SpellsValue, SpellsLoad, SpellsAsk};
 
 use crate::pieces::{first_piece, parse_number};
 
@@ -108,13 +108,23 @@ fn parse_value(kind: Kind, text: &[u8]) -> Option<(u64, Option<Kind>)>
     let Some(value) = parse_number(digits) else {
         return None;
     };
-    if kind == Kind::Byte && value > 255 {
+    if !fits(kind, value) {
         return None;
     }
     let Some(need) = parse_need(after) else {
         return None;
     };
     Some((value, need))
+}
+
+// Whether it is a value of the kind.
+fn fits(kind: Kind, value: u64) -> bool
+    ensures { IsTrue result ↔ (value < end_of kind) }
+{
+    match kind {
+        Kind::Byte => value < 256,
+        Kind::Number => true,
+    }
 }
 
 // Nothing, or needs KIND
