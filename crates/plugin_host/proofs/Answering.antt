@@ -6,9 +6,9 @@ use Rattle.plugin_host.specs.Answers.{AreAnswered, IsAnswerTo, text_of, texts_of
 use Rattle.plugin_host.specs.declared.answers.Answer.{Answer}
 use Rattle.plugin_host.specs.declared.script.Call.{Call}
 
-texts_push : (as : List Answer) (a : Answer) → texts_of (as ++ a ∷ []) ≡ texts_of as ++ text_of a
+texts_push : (list : List Answer) (a : Answer) → texts_of (list ++ a ∷ []) ≡ texts_of list ++ text_of a
 texts_push [] a = append-nil (text_of a)
-texts_push (b ∷ as) a = ap (λ (l : List ℕ). text_of b ++ l) (texts_push as a) ∙ sym (append_assoc (text_of b) (texts_of as) (text_of a))
+texts_push (b ∷ list) a = ap (λ (l : List ℕ). text_of b ++ l) (texts_push list a) ∙ sym (append_assoc (text_of b) (texts_of list) (text_of a))
 
 pub answered_none : (calls : List Call) → AreAnswered (take 0 calls) []
 answered_none calls = record { answers = []; fit = tt; lines = refl }

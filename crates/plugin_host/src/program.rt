@@ -62,10 +62,10 @@ fn outcome<R: Wait, S: Source, K: Sink>(
     ensures says { Says (run_of S.Source K.Sink words.now source.old source.new out.old out.new) result }
     ensures comes { Comes (run_of S.Source K.Sink words.now source.old source.new out.old out.new) result }
 {
-    if !words.is_empty() {
-        return Status::Usage;
+    if words.is_empty() {
+        return play_input(rt, alloc, words, source, out);
     }
-    play_input(rt, alloc, words, source, out)
+    Status::Usage
 }
 
 // Plays the script of the input.
@@ -120,9 +120,9 @@ fn parse_calls(alloc: Global, text: &[u8]) -> Result<Vec<Call>, ScriptFault>
         let Some(call) = parse_call(line) else {
             return Err(ScriptFault::BadLine { line: number });
         };
-        if calls.push(call).is_err() {
+        let Ok(()) = calls.push(call) else {
             return Err(ScriptFault::Memory);
-        }
+        };
         rest = others;
         number += 1;
     }

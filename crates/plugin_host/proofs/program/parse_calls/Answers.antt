@@ -8,7 +8,7 @@ use Rattle.plugin_host.specs.Runs.{AreCalls}
 use Rattle.plugin_host.proofs.program.parse_calls.Goals as goal
 
 pub loop-rest-init : goal.loop-rest-init
-loop-rest-init c = ([], refl, refl, omega arith, tt)
+loop-rest-init c = ([], refl, refl, omega arith, rw c.new-calls.ensures.items tt)
 
 pub loop-rest-preserved : goal.loop-rest-preserved
 loop-rest-preserved c =
@@ -22,7 +22,7 @@ loop-rest-preserved c =
       c.loop-rest.invariant.1 ∙ (ap (λ (l : List (List ℕ)). done ++ l) c.first_line.ensures.split ∙ sym (append_assoc done (line ∷ []) (lines_of c.first_line.result.1.now))),
       omega (arith, more, place),
       omega (arith, more, shorter, room),
-      rw c.if-is_err.push.ensures.items (zip_push IsLineOf done c.loop-rest.calls.items line c.in-Some.call c.loop-rest.invariant.4 c.in-Some.ensures),
+      rw c.in-Ok.ensures.items (zip_push IsLineOf done c.loop-rest.calls.items line c.in-Some.call c.loop-rest.invariant.4 c.in-Some.ensures),
     )
 
 pub overflow_add-number : goal.overflow_add-number
