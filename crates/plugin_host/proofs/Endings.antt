@@ -1,5 +1,5 @@
 -- From what a status says of its run to when each status comes.
-use Rattle.std.proofs.Common.{◌≡◌, ◌≢◌, ℕ, ◌+◌, ◌<◌, ◌≤◌, List, [], ◌∷◌, ◌++◌, length, sym, ◌∙◌, subst, arith, refl, ◌⊎◌, inl, inr, ap}
+use Rattle.std.proofs.Common.{◌≡◌, ◌≢◌, ℕ, ◌<◌, ◌≤◌, List, [], ◌∷◌, ◌++◌, length, sym, ◌∙◌, subst, arith, refl, ◌⊎◌, inl, inr, ap}
 use Rattle.std.specs.List.{AllZip}
 use Rattle.stabby_tables.specs.Pieces.{lines_of}
 use Rattle.stabby_tables.proofs.Zips.{zip_at}
@@ -9,7 +9,7 @@ use Rattle.plugin_host.specs.Lines.{IsLineOf, IsNoCall}
 use Rattle.plugin_host.specs.declared.script.Call.{Call}
 use Rattle.plugin_host.specs.declared.status.Status.{Status}
 use Rattle.plugin_host.specs.declared.status.Status.TheVariants.{Ok, Memory, Usage, BadLine, TooLong, ReadFault, WriteFault}
-use Rattle.plugin_host.specs.Runs.{Run, Plays, IsFirstBad, UsageRun, Says, ToldRun, CleanRun, CleanBadRun, CleanLongRun, Comes}
+use Rattle.plugin_host.specs.Runs.{Run, IsFirstBad, UsageRun, Says, ToldRun, CleanRun, CleanBadRun, CleanLongRun, Comes}
 
 input_is : (r : Run) (bytes given : List ℕ) → ToldRun r bytes → GaveAll r.source given → given ≡ bytes
 input_is r bytes given input read = read_all r.source.told r.source.told_after bytes given (ToldRun.told input) (ToldRun.still_told input) (ReadToEnd.gave read) (ReadToEnd.at_end read)

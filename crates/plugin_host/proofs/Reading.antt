@@ -1,7 +1,7 @@
 -- Lines cut at their first space, and which call a word begins.
 use Rattle.std.proofs.Common.{◌≡◌, ◌≢◌, ℕ, ◌+◌, ◌<◌, ◌≤◌, List, [], ◌∷◌, ◌++◌, length, take, drop, refl, sym, ◌∙◌, ap, subst, arith, Bool, true, false, ◌==◌, ◌&&◌, cond, not, Option, Some, None, codes, suc}
 use mathlib.Core.Bool.{false≢true}
-use Rattle.std.specs.List.{AllByRecursion, position_or_len}
+use Rattle.std.specs.List.{AllByRecursion}
 use Rattle.std.specs.Char.{digit_value}
 use Rattle.std.specs.Str.Parse.{AllDigits}
 use Rattle.std.proofs.lemmas.Bool.Decides.{nat_tests}
@@ -11,7 +11,7 @@ use Rattle.plugin_host.specs.declared.script.Kind.{Kind}
 use Rattle.plugin_host.specs.declared.script.Kind.TheVariants.{Byte, Number}
 use Rattle.plugin_host.specs.declared.script.Call.{Call}
 use Rattle.plugin_host.specs.declared.script.Call.TheVariants as call
-use Rattle.plugin_host.specs.Lines.{followed, name_of, end_of, word_of, Follows, IsLineOf, IsNoCall, Reads, ReadsAfter, ReadsNeed, SpellsNeed, SpellsNeedText, SpellsValue, SpellsLoad, SpellsAsk}
+use Rattle.plugin_host.specs.Lines.{followed, name_of, end_of, word_of, Follows, IsLineOf, IsNoCall, Reads, ReadsAfter, SpellsNeed, SpellsNeedText, SpellsValue, SpellsLoad, SpellsAsk}
 
 abbrev pub NoSpace : List ℕ → Type 0
 NoSpace piece = AllByRecursion (λ b. b ≢ 32) piece

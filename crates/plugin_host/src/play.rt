@@ -117,12 +117,7 @@ impl Play {
     }
 
     /// Makes the call.
-    pub fn call<R: Wait>(
-        &mut self,
-        rt: &R,
-        alloc: Global,
-        call: Call,
-    ) -> Result<Answer, AllocError>
+    pub fn call<R: Wait>(&mut self, rt: &R, alloc: Global, call: Call) -> Result<Answer, AllocError>
         ensures { IfOk result (IsAnswerTo call) }
     {
         match call {

@@ -23,11 +23,18 @@ pub enum Call {
         need: Option<Kind>,
     },
     /// The plugin's value is read as one of this kind.
-    Ask { kind: Kind, plugin: u64 },
+    Ask {
+        kind: Kind,
+        plugin: u64,
+    },
     /// A guest gets a strong handle of the plugin's value.
-    Guest { plugin: u64 },
+    Guest {
+        plugin: u64,
+    },
     /// The plugin is unloaded.
-    Unload { plugin: u64 },
+    Unload {
+        plugin: u64,
+    },
 }
 
 /// The call that a line is; `None` exactly where it is none.

@@ -1,4 +1,4 @@
-use Rattle.std.proofs.Common.{◌≡◌, ◌<◌, ◌≢◌, [], length, map, string_bytes, refl, arith}
+use Rattle.std.proofs.Common.{◌≡◌, ◌<◌, length, refl, arith}
 use Rattle.std.proofs.lemmas.Bool.Decides.{nat_tests}
 use Rattle.plugin_host.proofs.Endings.{comes}
 use Rattle.plugin_host.proofs.Words.{no_words, some_words}
@@ -6,13 +6,13 @@ use Rattle.plugin_host.specs.Runs.{UsageRun, run_of}
 use Rattle.plugin_host.specs.declared.status.Status.TheVariants.{Usage}
 use Rattle.plugin_host.proofs.program.outcome.Goals as goal
 
-pub calls-play_input : goal.calls-play_input
-calls-play_input g c =
+pub play_input-requires : goal.play_input-requires
+play_input-requires g c =
     let none : length c.args.words.now ≡ 0 = grind (arith, nat_tests, c.if-is_empty.ensures, c.if-is_empty.true) in
     no_words c.args.words.now none
 
-pub returns-if-is_empty-clause-comes : goal.returns-if-is_empty-clause-comes
-returns-if-is_empty-clause-comes g c = comes _ _ c.play_input.ensures
+pub returns-then-is_empty-clause-comes : goal.returns-then-is_empty-clause-comes
+returns-then-is_empty-clause-comes g c = comes _ _ c.play_input.ensures
 
 pub returns-clause-says : goal.returns-clause-says
 returns-clause-says g c =
