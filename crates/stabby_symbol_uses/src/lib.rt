@@ -4,6 +4,8 @@
 #[cfg(test)]
 mod fixtures;
 #[cfg(test)]
+mod gate_tests;
+#[cfg(test)]
 mod index_tests;
 #[cfg(test)]
 mod packing_tests;
