@@ -44,15 +44,6 @@ fn spell(line: &mut String, words: impl Iterator<Item = u64>) {
     }
 }
 
-fn distinct_lines(count: usize, numbers: &mut Numbers) -> String {
-    let mut text = String::new();
-    for _ in 0..count {
-        spell(&mut text, (0..3).map(|_| numbers.next()));
-        text.push('\n');
-    }
-    text
-}
-
 fn put(folder: &Path, name: &str, text: &str) -> io::Result<()> {
     fs::write(folder.join(name), text)?;
     fs::write(folder.join(format!("{name}.bad")), format!("{text}x\n"))
@@ -76,11 +67,5 @@ fn main() -> io::Result<()> {
     let digits = lines_up_to(LIMIT, |line| spell(line, (0..5_000).map(|_| numbers.next())));
     put(folder, "many_long_words", &digits)?;
     put(folder, "empty_lines", &"\n".repeat(LIMIT - 2))?;
-    fs::write(folder.join("worst"), "\n".repeat(LIMIT))?;
-
-    // Distinct tables, for the growth of the time in their number.
-    for count in [2_500, 5_000, 10_000] {
-        put(folder, &format!("distinct_{count}"), &distinct_lines(count, &mut numbers))?;
-    }
-    Ok(())
+    fs::write(folder.join("worst"), "\n".repeat(LIMIT))
 }

@@ -1,5 +1,5 @@
-//! `measure RUNS INPUT A.. -- B..` runs the commands A and B in turns, RUNS times each, on the file INPUT with their
-//! output thrown away, and prints for each its least processor time and least wall time in milliseconds, and its
+//! `measure RUNS INPUT OUTPUT A.. -- B..` runs the commands A and B in turns, RUNS times each, on the file INPUT with their
+//! output to the file OUTPUT, and prints for each its least processor time and least wall time in milliseconds, and its
 //! greatest peak of memory in MB. Processor time is what ratios are made of: it moves least where others use the machine.
 
 use std::fs::File;
@@ -38,12 +38,13 @@ fn milliseconds(time: Time) -> f64 {
     time.seconds as f64 * 1e3 + time.microseconds as f64 / 1e3
 }
 
-fn run(words: &[String], input: &str) -> Figures {
+fn run(words: &[String], input: &str, output: &str) -> Figures {
+    let output = File::create(output).expect("the output");
     let begun = Instant::now();
     let child = Command::new(&words[0])
         .args(&words[1..])
         .stdin(File::open(input).expect("the input"))
-        .stdout(Stdio::null())
+        .stdout(output)
         .stderr(Stdio::null())
         .spawn()
         .expect("the command");
@@ -70,11 +71,11 @@ fn best(so_far: Option<Figures>, next: Figures) -> Option<Figures> {
 fn main() -> ExitCode {
     let words: Vec<String> = std::env::args().skip(1).collect();
     let runs: usize = words[0].parse().expect("the number of runs");
-    let commands: Vec<&[String]> = words[2..].split(|word| word == "--").collect();
+    let commands: Vec<&[String]> = words[3..].split(|word| word == "--").collect();
     let mut figures = vec![None; commands.len()];
     for _ in 0..runs {
         for (at, command) in commands.iter().enumerate() {
-            figures[at] = best(figures[at], run(command, &words[1]));
+            figures[at] = best(figures[at], run(command, &words[1], &words[2]));
         }
     }
     for each in figures.into_iter().flatten() {

@@ -1,18 +1,17 @@
 //! The job of `stabby_intern ranks` by plain Rust, with the standard library alone.
 //!
-//! `plain parse PARSER` reads standard input and parses it; `plain ranks PARSER` does the whole job on one thread;
-//! `plain lock PARSER W` and `plain versions PARSER W` do it with W threads. PARSER is `split`, by `split` and
-//! `str::parse`, or `bytes`, by one loop over the bytes. All print by `write!`, a word at a time, into a buffered
+//! `plain parse PARSER` reads standard input and parses it; `plain ranks PARSER` does the whole job. PARSER is `split`, by
+//! `split` and `str::parse`, or `bytes`, by one loop over the bytes. All print by `write!`, a word at a time, into a buffered
 //! standard output. A line that spells no table ends the program with status 3.
-
-mod workers;
 
 use std::collections::BTreeMap;
 use std::io::{self, BufWriter, Read, Write};
 use std::process::ExitCode;
-use workers::Numbered;
 
 type Table = Vec<u64>;
+
+/// The number of each table, and the distinct tables in order, each with its number.
+type Numbered<'a> = (Vec<usize>, Vec<(&'a [u64], usize)>);
 
 fn parse_word(run: &[u8]) -> Option<u64> {
     if run.is_empty() || !run.iter().all(u8::is_ascii_digit) {
@@ -125,14 +124,10 @@ fn main() -> ExitCode {
     let Ok(tables) = parsed else {
         return ExitCode::from(3);
     };
-    let workers = || words[2].parse().expect("the number of workers");
-    let numbered = match words[0] {
-        "ranks" => number_all(&tables),
-        "lock" => workers::under_a_lock(&tables, workers()),
-        "versions" => workers::by_versions(&tables, workers()),
-        _ => return ExitCode::SUCCESS,
-    };
-    match write_ranks(numbered) {
+    if words[0] != "ranks" {
+        return ExitCode::SUCCESS;
+    }
+    match write_ranks(number_all(&tables)) {
         Ok(()) => ExitCode::SUCCESS,
         Err(_) => ExitCode::from(6),
     }

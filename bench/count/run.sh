@@ -4,7 +4,7 @@
 set -eu
 . "$(dirname "$0")/../build.sh"
 rounds="${1:-4000000}"
-build_both count_rounds count/rounds.rs
+build_both count_bench count/rounds.rs
 
 # nanoseconds of one run
 spent() {

@@ -23,7 +23,7 @@ spent() {
     echo "$pattern $rest" >"$build/order"
     echo "nothing $rest" >"$build/none"
     [ "$("$ours" <"$build/order")" = "$("$theirs" <"$build/order")" ] || { echo "the answers differ: $pattern $rest" >&2; exit 1; }
-    { "$build/measure" "$runs" "$build/order" "$ours" -- "$theirs"; "$build/measure" "$runs" "$build/none" "$ours" -- "$theirs"; } |
+    { "$build/measure" "$runs" "$build/order" /dev/null "$ours" -- "$theirs"; "$build/measure" "$runs" "$build/none" /dev/null "$ours" -- "$theirs"; } |
         awk '{ t[NR] = $1 } END { print t[1] - t[3], t[2] - t[4] }'
 }
 

@@ -1,5 +1,6 @@
 #!/bin/sh
 # Times pushes, swap_removes and drains of stabby_vec's Vec and of Rust's, and prints the ratios of the best of five.
+# A drain takes 10 of 1,000 items, read from the front, from the back or from both ends in turn, or half of a million.
 # Run it from this folder; it needs rt, cargo and awk. It works in a folder of its own.
 set -e
 here=$(cd "$(dirname "$0")" && pwd)
@@ -9,7 +10,8 @@ cp -r "$here/../../crates/stabby_layout" "$here/../../crates/stabby_vec" "$work/
 cd "$work/crates"
 rt new vec_rounds start_io >/dev/null
 rm -rf vec_rounds/specs vec_rounds/proofs vec_rounds/BUILD.bazel vec_rounds/stdin vec_rounds/stdout vec_rounds/src/*.rt
-printf 'stabby_layout: thiserror\nstabby_vec: stabby_layout arrayvec\nvec_rounds: stabby_vec anyhow\n' > "$work/crates.txt"
+grep -E '^(stabby_layout|stabby_vec):' "$here/../../crates.txt" > "$work/crates.txt"
+echo 'vec_rounds: stabby_vec anyhow' >> "$work/crates.txt"
 cat > vec_rounds/src/main.rt <<'RATTLE'
 //! Pushes, swaps and drains of a list, in microseconds.
 #![tactic(auto)]
@@ -41,10 +43,18 @@ fn swap_rounds(list: &mut Vec<u64, Global>) -> anyhow::Result<u64> {
     Ok(sum)
 }
 
-fn read_range(list: &mut Vec<u64, Global>) -> u64 {
+/// From which ends a drain is read.
+#[derive(Clone, Copy)]
+enum Ends {
+    Front,
+    Back,
+    Both,
+}
+
+fn read_front(list: &mut Vec<u64, Global>, from: usize, to: usize) -> u64 {
     let mut sum = 0u64;
-    if let Some(mut drain) = list.try_drain(900, 910) {
-        for _ in 0..10 {
+    if let Some(mut drain) = list.try_drain(from, to) {
+        for _ in 0..u64::MAX {
             match drain.next() {
                 Some(item) => sum = sum.wrapping_add(item),
                 None => break,
@@ -54,12 +64,54 @@ fn read_range(list: &mut Vec<u64, Global>) -> u64 {
     sum
 }
 
-fn drain_rounds(list: &mut Vec<u64, Global>) -> anyhow::Result<u64> {
+fn read_back(list: &mut Vec<u64, Global>, from: usize, to: usize) -> u64 {
     let mut sum = 0u64;
-    for round in 0..ROUNDS {
-        sum = sum.wrapping_add(read_range(list));
-        for item in 0..10u64 {
-            list.push(round.wrapping_add(item))?;
+    if let Some(drain) = list.try_drain(from, to) {
+        let mut drain = drain.double_ended();
+        for _ in 0..u64::MAX {
+            match drain.next_back() {
+                Some(item) => sum = sum.wrapping_add(item),
+                None => break,
+            }
+        }
+    }
+    sum
+}
+
+fn read_both(list: &mut Vec<u64, Global>, from: usize, to: usize) -> u64 {
+    let mut sum = 0u64;
+    if let Some(drain) = list.try_drain(from, to) {
+        let mut drain = drain.double_ended();
+        for _ in 0..u64::MAX {
+            match drain.next() {
+                Some(item) => sum = sum.wrapping_add(item),
+                None => break,
+            }
+            match drain.next_back() {
+                Some(item) => sum = sum.wrapping_add(item),
+                None => break,
+            }
+        }
+    }
+    sum
+}
+
+fn drain_rounds(
+    list: &mut Vec<u64, Global>,
+    ends: Ends,
+    from: usize,
+    to: usize,
+    rounds: u64,
+) -> anyhow::Result<u64> {
+    let mut sum = 0u64;
+    for round in 0..rounds {
+        sum = sum.wrapping_add(match ends {
+            Ends::Front => read_front(list, from, to),
+            Ends::Back => read_back(list, from, to),
+            Ends::Both => read_both(list, from, to),
+        });
+        for item in from..to {
+            list.push(round.wrapping_add(item as u64))?;
         }
     }
     Ok(sum)
@@ -79,16 +131,28 @@ fn main(rt: HostRuntime) -> anyhow::Result<()> {
         let mut short = Vec::new_in(rt.alloc());
         push_all(&mut short, 1000)?;
         let start = Instant::now(&rt)?;
-        let sum = drain_rounds(&mut short)?;
+        let sum = drain_rounds(&mut short, Ends::Front, 900, 910, ROUNDS)?;
         println!(rt; "drain {} {sum}", start.elapsed(&rt)?.as_micros())?;
+
+        let start = Instant::now(&rt)?;
+        let sum = drain_rounds(&mut short, Ends::Back, 900, 910, ROUNDS)?;
+        println!(rt; "drain_back {} {sum}", start.elapsed(&rt)?.as_micros())?;
+
+        let start = Instant::now(&rt)?;
+        let sum = drain_rounds(&mut short, Ends::Both, 900, 910, ROUNDS)?;
+        println!(rt; "drain_both {} {sum}", start.elapsed(&rt)?.as_micros())?;
+
+        let start = Instant::now(&rt)?;
+        let sum = drain_rounds(&mut list, Ends::Front, 250_000, 750_000, 10)?;
+        println!(rt; "drain_half {} {sum}", start.elapsed(&rt)?.as_micros())?;
     }
     Ok(())
 }
 RATTLE
 cd vec_rounds
-rt run 2> "$work/log" | grep -E '^(push|swap_remove|drain) [0-9]+ [0-9]+$' > "$work/ours"
+rt run 2> "$work/log" | grep -E '^(push|swap_remove|drain|drain_back|drain_both|drain_half) [0-9]+ [0-9]+$' > "$work/ours"
 cargo run --release --quiet --manifest-path "$here/Cargo.toml" --target-dir "$work/target" > "$work/rust"
-for name in push swap_remove drain; do
+for name in push swap_remove drain drain_back drain_both drain_half; do
   ours=$(awk -v n="$name" '$1 == n && (!m || $2 < m) { m = $2 } END { print m }' "$work/ours")
   rust=$(awk -v n="$name" '$1 == n && (!m || $2 < m) { m = $2 } END { print m }' "$work/rust")
   same=$(awk -v n="$name" '$1 == n { print $3 }' "$work/ours" "$work/rust" | sort -u | wc -l)

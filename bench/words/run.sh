@@ -37,6 +37,6 @@ for text in "$texts"/*; do
     "$theirs" spans 1 <"$text" | cmp - "$build/told"
     for workers in 1 4; do
         echo "$(basename "$text") ($(stat -c %s "$text") bytes, $(wc -l <"$build/told") distinct words), W $workers: least processor ms, least wall ms, peak MB; ours, then the HashMap's"
-        "$build/measure" "$runs" "$text" "$ours" spans "$workers" -- "$theirs" spans "$workers"
+        "$build/measure" "$runs" "$text" /dev/null "$ours" spans "$workers" -- "$theirs" spans "$workers"
     done
 done

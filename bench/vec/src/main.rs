@@ -8,6 +8,52 @@ fn report(name: &str, start: Instant, sum: u64) {
     println!("{name} {} {sum}", start.elapsed().as_micros());
 }
 
+fn read_front(list: &mut Vec<u64>, from: usize, to: usize) -> u64 {
+    let mut sum = 0u64;
+    let mut drain = list.drain(from..to);
+    while let Some(item) = drain.next() {
+        sum = sum.wrapping_add(item);
+    }
+    sum
+}
+
+fn read_back(list: &mut Vec<u64>, from: usize, to: usize) -> u64 {
+    let mut sum = 0u64;
+    let mut drain = list.drain(from..to);
+    while let Some(item) = drain.next_back() {
+        sum = sum.wrapping_add(item);
+    }
+    sum
+}
+
+fn read_both(list: &mut Vec<u64>, from: usize, to: usize) -> u64 {
+    let mut sum = 0u64;
+    let mut drain = list.drain(from..to);
+    while let Some(item) = drain.next() {
+        sum = sum.wrapping_add(item);
+        let Some(item) = drain.next_back() else { break };
+        sum = sum.wrapping_add(item);
+    }
+    sum
+}
+
+fn drain_rounds(
+    list: &mut Vec<u64>,
+    read: fn(&mut Vec<u64>, usize, usize) -> u64,
+    from: usize,
+    to: usize,
+    rounds: u64,
+) -> u64 {
+    let mut sum = 0u64;
+    for round in 0..rounds {
+        sum = sum.wrapping_add(read(list, from, to));
+        for item in from..to {
+            list.push(round.wrapping_add(item as u64));
+        }
+    }
+    sum
+}
+
 fn main() {
     for _ in 0..5 {
         let start = Instant::now();
@@ -31,18 +77,19 @@ fn main() {
             short.push(item);
         }
         let start = Instant::now();
-        let mut sum = 0u64;
-        for round in 0..ROUNDS {
-            {
-                let mut drain = short.drain(900..910);
-                while let Some(item) = drain.next() {
-                    sum = sum.wrapping_add(item);
-                }
-            }
-            for item in 0..10 {
-                short.push(round + item);
-            }
-        }
+        let sum = drain_rounds(&mut short, read_front, 900, 910, ROUNDS);
         report("drain", start, sum);
+
+        let start = Instant::now();
+        let sum = drain_rounds(&mut short, read_back, 900, 910, ROUNDS);
+        report("drain_back", start, sum);
+
+        let start = Instant::now();
+        let sum = drain_rounds(&mut short, read_both, 900, 910, ROUNDS);
+        report("drain_both", start, sum);
+
+        let start = Instant::now();
+        let sum = drain_rounds(&mut list, read_front, 250_000, 750_000, 10);
+        report("drain_half", start, sum);
     }
 }

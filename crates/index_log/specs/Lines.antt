@@ -2,6 +2,7 @@
 use Rattle.std.specs.Prelude.{◌≡◌, ℕ, List, ◌∷◌, ◌++◌, codes, Option, None, Some}
 use Rattle.std.specs.Str.{IsUtf8}
 use Rattle.stabby_tables.specs.Lines.{SpellsWord}
+use Rattle.stabby_lines.specs.Pieces.{followed}
 use Rattle.stabby_index.specs.declared.row.Row.{Row}
 use Rattle.stabby_index.specs.declared.row.Change.{Change}
 use Rattle.stabby_index.specs.declared.row.Change.TheVariants.{Put, Delete}
@@ -9,11 +10,6 @@ use Rattle.index_log.specs.declared.command.Question.{Question}
 use Rattle.index_log.specs.declared.command.Question.TheVariants.{Rows, Group, Groups}
 use Rattle.index_log.specs.declared.command.Command.{Command}
 use Rattle.index_log.specs.declared.command.Command.TheVariants as command
-
--- a piece, and where there is more, a space and that
-abbrev pub followed : List ℕ → Option (List ℕ) → List ℕ
-followed piece None = piece
-followed piece (Some rest) = piece ++ 32 ∷ rest
 
 -- the word that a command begins with
 abbrev pub word_of_change : Change → List ℕ

@@ -4,9 +4,9 @@ ghost use Rattle.std.specs.Prelude.{◌≡◌, Some, IfOk, IfErr, codes};
 ghost use Rattle.std.specs.Option.{option_copied};
 ghost use Rattle.index_log.specs.Lines.{Reads, ReadsAfter, ReadsRow, ReadsStamp};
 
-use crate::pieces::{first_piece, parse_number};
 use stabby_index::{Change, Row};
 use stabby_layout::{AllocationError, Text};
+use stabby_lines::{first_piece, parse_number};
 use std::alloc::Global;
 
 /// Which rows are asked for.

@@ -4,7 +4,6 @@
 
 mod command;
 mod messages;
-mod pieces;
 mod printing;
 mod program;
 mod session;

@@ -11,10 +11,10 @@ ghost use Rattle.index_log.specs.Statuses.{line_of};
 
 use crate::command::parse_command;
 use crate::messages::tell;
-use crate::pieces::{first_line, parse_number};
 use crate::session::Session;
 use crate::status::Status;
 use stabby_intern::{ReadFault, Sink, Source, read_to_end, write_all};
+use stabby_lines::{first_line, parse_number};
 use std::alloc::Global;
 use std::sync::Wait;
 

@@ -6,102 +6,16 @@ use Rattle.std.specs.Char.{digit_value}
 use Rattle.std.specs.Str.Parse.{AllDigits}
 use Rattle.std.proofs.lemmas.Bool.Decides.{nat_tests}
 use Rattle.stabby_tables.specs.Lines.{SpellsWord}
-use Rattle.stabby_tables.proofs.Cuts.{before}
+use Rattle.stabby_lines.specs.Pieces.{followed}
+use Rattle.stabby_lines.proofs.Cuts.{NoSpace, SameCut, cut_same, spelled_no_space, other}
+use Rattle.stabby_lines.proofs.Apart.{apart, never_some, some_same}
 use Rattle.plugin_host.specs.declared.script.Kind.{Kind}
 use Rattle.plugin_host.specs.declared.script.Kind.TheVariants.{Byte, Number}
 use Rattle.plugin_host.specs.declared.script.Call.{Call}
 use Rattle.plugin_host.specs.declared.script.Call.TheVariants as call
-use Rattle.plugin_host.specs.Lines.{followed, name_of, end_of, word_of, Follows, IsLineOf, IsNoCall, Reads, ReadsAfter, SpellsNeed, SpellsNeedText, SpellsValue, SpellsLoad, SpellsAsk}
+use Rattle.plugin_host.specs.Lines.{name_of, end_of, word_of, Follows, IsLineOf, IsNoCall, Reads, ReadsAfter, SpellsNeed, SpellsNeedText, SpellsValue, SpellsLoad, SpellsAsk}
 
-abbrev pub NoSpace : List ℕ → Type 0
-NoSpace piece = AllByRecursion (λ b. b ≢ 32) piece
-
--- ---- where the first space stands
-is_space : (b : ℕ) → (b == 32) ≡ true → b ≡ 32
-is_space b e = grind (arith, nat_tests)
-
-no_space : (b : ℕ) → (b == 32) ≡ false → b ≢ 32
-no_space b e = grind (arith, nat_tests)
-
-record CutAt (line : List ℕ) (at : ℕ) : Type 0 where
-  pub whole : line ≡ take at line ++ 32 ∷ drop (at + 1) line
-  pub none : NoSpace (take at line)
-
-cut_by : (t : Bool) (b : ℕ) (line : List ℕ) → (b == 32) ≡ t → cond (not t) (1 + before 32 line) 0 < length (b ∷ line) → (before 32 line < length line → CutAt line (before 32 line)) → CutAt (b ∷ line) (cond (not t) (1 + before 32 line) 0)
-cut_by true b line is lt rest = record { whole = ap (λ (x : ℕ). x ∷ line) (is_space b is); none = tt }
-cut_by false b line is lt rest =
-    let r = rest (omega (arith, lt)) in
-    let one : 1 + before 32 line ≡ suc (before 32 line) = omega arith in
-    let two : suc (before 32 line) + 1 ≡ suc (before 32 line + 1) = omega arith in
-    rw one (record { whole = rw two (ap (λ (l : List ℕ). b ∷ l) (CutAt.whole r)); none = (no_space b is, CutAt.none r) })
-
-cut_at : (line : List ℕ) → before 32 line < length line → CutAt line (before 32 line)
-cut_at [] lt = absurd (omega arith)
-cut_at (b ∷ line) lt = cut_by (b == 32) b line refl lt (cut_at line)
-
-pub cut_whole : (line : List ℕ) (at : ℕ) → at ≡ before 32 line → before 32 line < length line → line ≡ take at line ++ 32 ∷ drop (at + 1) line
-cut_whole line at is lt = rw is (CutAt.whole (cut_at line lt))
-
-pub cut_none : (line : List ℕ) (at : ℕ) → at ≡ before 32 line → before 32 line < length line → NoSpace (take at line)
-cut_none line at is lt = rw is (CutAt.none (cut_at line lt))
-
-nowhere_by : (t : Bool) (b : ℕ) (line : List ℕ) → (b == 32) ≡ t → length (b ∷ line) ≤ cond (not t) (1 + before 32 line) 0 → (length line ≤ before 32 line → NoSpace line) → NoSpace (b ∷ line)
-nowhere_by true b line is le rest = absurd (omega (arith, le))
-nowhere_by false b line is le rest = (no_space b is, rest (omega (arith, le)))
-
-pub nowhere : (line : List ℕ) → length line ≤ before 32 line → NoSpace line
-nowhere [] le = tt
-nowhere (b ∷ line) le = nowhere_by (b == 32) b line refl le (nowhere line)
-
--- ---- a line is cut in one way
-head_same : (x y : ℕ) (xs ys : List ℕ) → x ∷ xs ≡ y ∷ ys → x ≡ y
-head_same x y xs ys e = cc
-
-tail_same : (x y : ℕ) (xs ys : List ℕ) → x ∷ xs ≡ y ∷ ys → xs ≡ ys
-tail_same x y xs ys e = cc
-
-never_empty : (x : ℕ) (xs : List ℕ) → [] ≡ x ∷ xs → ⊥
-never_empty x xs e = cc
-
-pub record SameCut (p q : List ℕ) (r s : Option (List ℕ)) : Type 0 where
-  pub piece : p ≡ q
-  pub rest : r ≡ s
-
-more_same : (x y : ℕ) (p q : List ℕ) (r s : Option (List ℕ)) → x ≡ y → SameCut p q r s → SameCut (x ∷ p) (y ∷ q) r s
-more_same x y p q r s e more = record { piece = ap (λ (z : ℕ). z ∷ p) e ∙ ap (λ (l : List ℕ). y ∷ l) (SameCut.piece more); rest = SameCut.rest more }
-
-pub cut_same : (p q : List ℕ) (r s : Option (List ℕ)) → NoSpace p → NoSpace q → followed p r ≡ followed q s → SameCut p q r s
-cut_same [] [] None None a b e = record { piece = refl; rest = refl }
-cut_same [] [] None (Some s) a b e = absurd (never_empty 32 s e)
-cut_same [] [] (Some r) None a b e = absurd (never_empty 32 r (sym e))
-cut_same [] [] (Some r) (Some s) a b e = record { piece = refl; rest = ap Some (tail_same 32 32 r s e) }
-cut_same [] (y ∷ q) None None a b e = absurd (never_empty y q e)
-cut_same [] (y ∷ q) None (Some s) a b e = absurd (never_empty y (q ++ 32 ∷ s) e)
-cut_same [] (y ∷ q) (Some r) None a b e = absurd (b.0 (sym (head_same 32 y r q e)))
-cut_same [] (y ∷ q) (Some r) (Some s) a b e = absurd (b.0 (sym (head_same 32 y r (q ++ 32 ∷ s) e)))
-cut_same (x ∷ p) [] None None a b e = absurd (never_empty x p (sym e))
-cut_same (x ∷ p) [] (Some r) None a b e = absurd (never_empty x (p ++ 32 ∷ r) (sym e))
-cut_same (x ∷ p) [] None (Some s) a b e = absurd (a.0 (head_same x 32 p s e))
-cut_same (x ∷ p) [] (Some r) (Some s) a b e = absurd (a.0 (head_same x 32 (p ++ 32 ∷ r) s e))
-cut_same (x ∷ p) (y ∷ q) None None a b e = more_same x y p q None None (head_same x y p q e) (cut_same p q None None a.1 b.1 (tail_same x y p q e))
-cut_same (x ∷ p) (y ∷ q) None (Some s) a b e = more_same x y p q None (Some s) (head_same x y p (q ++ 32 ∷ s) e) (cut_same p q None (Some s) a.1 b.1 (tail_same x y p (q ++ 32 ∷ s) e))
-cut_same (x ∷ p) (y ∷ q) (Some r) None a b e = more_same x y p q (Some r) None (head_same x y (p ++ 32 ∷ r) q e) (cut_same p q (Some r) None a.1 b.1 (tail_same x y (p ++ 32 ∷ r) q e))
-cut_same (x ∷ p) (y ∷ q) (Some r) (Some s) a b e = more_same x y p q (Some r) (Some s) (head_same x y (p ++ 32 ∷ r) (q ++ 32 ∷ s) e) (cut_same p q (Some r) (Some s) a.1 b.1 (tail_same x y (p ++ 32 ∷ r) (q ++ 32 ∷ s) e))
-
--- ---- digits and words have no space
-digit_no_space : (b : ℕ) → digit_value b < 10 → b ≢ 32
-digit_no_space b low e = absurd (omega (arith, rw e at low))
-
-pub digits_no_space : (run : List ℕ) → AllDigits 10 run → NoSpace run
-digits_no_space [] all = tt
-digits_no_space (b ∷ run) all = (digit_no_space b all.0, digits_no_space run all.1)
-
-pub spelled_no_space : (run : List ℕ) (w : ℕ) → SpellsWord run w → NoSpace run
-spelled_no_space run w s = digits_no_space run s.digits.1
-
-other : (n : ℕ) → (n == 32) ≡ false → n ≢ 32
-other n e = no_space n e
-
+-- ---- words have no space
 word_no_space : (c : Call) → NoSpace (word_of c)
 word_no_space (call.Load kind value need) = (other 108 refl, (other 111 refl, (other 97 refl, (other 100 refl, tt))))
 word_no_space (call.Ask kind plugin) = (other 97 refl, (other 115 refl, (other 107 refl, tt)))
@@ -111,12 +25,6 @@ word_no_space (call.Unload plugin) = (other 117 refl, (other 110 refl, (other 10
 name_no_space : (kind : Kind) → NoSpace (name_of kind)
 name_no_space Byte = (other 98 refl, (other 121 refl, (other 116 refl, (other 101 refl, tt))))
 name_no_space Number = (other 110 refl, (other 117 refl, (other 109 refl, (other 98 refl, (other 101 refl, (other 114 refl, tt))))))
-
-some_same : (a b : List ℕ) → Some a ≡ Some b → a ≡ b
-some_same a b e = cc
-
-never_some : (text : List ℕ) → Some text ≡ None → ⊥
-never_some text e = cc
 
 -- what follows a word tells what the line is
 pub reads_line : (line word text : List ℕ) (found : Option Call) → line ≡ followed word (Some text) → NoSpace word → ReadsAfter word text found → Reads line found
@@ -131,26 +39,6 @@ no_call_short line word cut none c is =
     never_some (IsLineOf.rest is) (sym (SameCut.rest (cut_same word (word_of c) None (Some (IsLineOf.rest is)) none (word_no_space c) (sym cut ∙ IsLineOf.whole is))))
 
 -- ---- which calls a word begins
-abbrev same : List ℕ → List ℕ → Bool
-same [] [] = true
-same [] (y ∷ q) = false
-same (x ∷ p) [] = false
-same (x ∷ p) (y ∷ q) = (x == y) && same p q
-
-same_head : (t : Bool) (b : Bool) → t ≡ true → b ≡ true → (t && b) ≡ true
-same_head t b e f = cc
-
-same_number : (x : ℕ) → (x == x) ≡ true
-same_number x = grind (arith, nat_tests)
-
-same_self : (p : List ℕ) → same p p ≡ true
-same_self [] = refl
-same_self (x ∷ p) = same_head (x == x) (same p p) (same_number x) (same_self p)
-
--- texts that a test tells apart differ
-apart : (p q : List ℕ) → same p q ≡ false → p ≡ q → ⊥
-apart p q differs e = false≢true (sym differs ∙ (ap (same p) (sym e) ∙ same_self p))
-
 pub none_load : (text : List ℕ) → ((kind : Kind) (value : ℕ) (need : Option Kind) → SpellsLoad text kind value need → ⊥) → (c : Call) → word_of c ≡ codes "load" → Follows text c → ⊥
 none_load text h (call.Load kind value need) w f = h kind value need f
 none_load text h (call.Ask kind plugin) w f = absurd (apart (codes "ask") (codes "load") refl w)

@@ -1,15 +1,11 @@
 -- Which lines are which calls.
 use Rattle.std.specs.Prelude.{◌≡◌, ℕ, ◌<◌, List, ◌∷◌, ◌++◌, codes, Option, None, Some}
 use Rattle.stabby_tables.specs.Lines.{SpellsWord}
+use Rattle.stabby_lines.specs.Pieces.{followed}
 use Rattle.plugin_host.specs.declared.script.Kind.{Kind}
 use Rattle.plugin_host.specs.declared.script.Kind.TheVariants.{Byte, Number}
 use Rattle.plugin_host.specs.declared.script.Call.{Call}
 use Rattle.plugin_host.specs.declared.script.Call.TheVariants as call
-
--- a piece, and where there is more, a space and that
-abbrev pub followed : List ℕ → Option (List ℕ) → List ℕ
-followed piece None = piece
-followed piece (Some rest) = piece ++ 32 ∷ rest
 
 -- the name of a kind
 abbrev pub name_of : Kind → List ℕ

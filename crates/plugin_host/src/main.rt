@@ -4,7 +4,6 @@
 
 mod answers;
 mod messages;
-mod pieces;
 mod play;
 mod program;
 mod script;

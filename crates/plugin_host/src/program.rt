@@ -10,12 +10,12 @@ ghost use Rattle.plugin_host.specs.Statuses.{line_of};
 
 use crate::answers::put_answer;
 use crate::messages::tell;
-use crate::pieces::first_line;
 use crate::play::Play;
 use crate::script::{Call, parse_call};
 use crate::status::Status;
 use stabby_host::Host;
 use stabby_intern::{ReadFault, Sink, Source, read_to_end, write_all};
+use stabby_lines::first_line;
 use std::alloc::{AllocError, Global};
 use std::sync::Wait;
 

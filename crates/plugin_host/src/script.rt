@@ -4,7 +4,7 @@ ghost use Rattle.std.specs.Prelude.{◌≡◌, ◌<◌, ◌↔◌, ℕ, IfSome, 
 ghost use Rattle.std.specs.Option.{option_copied};
 ghost use Rattle.plugin_host.specs.Lines.{name_of, end_of, Reads, ReadsAfter, ReadsNeed, SpellsNeedText, SpellsValue, SpellsLoad, SpellsAsk};
 
-use crate::pieces::{first_piece, parse_number};
+use stabby_lines::{first_piece, parse_number};
 
 /// The two types of the universe.
 #[derive(Clone, Copy, Debug, PartialEq, Eq)]

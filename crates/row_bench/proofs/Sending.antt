@@ -14,8 +14,8 @@ use Rattle.stabby_registry.below.stabby_cell.specs.contracts.pass.Pass as Pass
 use Rattle.stabby_registry.specs.contracts.registry.VtBtree as VtBtree
 use Rattle.stabby_registry.specs.contracts.catalog.Catalog as Catalog
 use Rattle.stabby_registry.specs.contracts.catalog.CatalogChronicle.TheImpl as chronicle
-use Rattle.stabby_registry.specs.contracts.table.WordTable as WordTable
-use Rattle.stabby_registry.proofs.table.WordTable.TheSendSync as table
+use Rattle.stabby_word_table.specs.contracts.table.WordTable as WordTable
+use Rattle.stabby_word_table.proofs.table.WordTable.TheSendSync as table
 use Rattle.stabby_registry.proofs.Sending.{registry_sync, tree_pass_send}
 
 -- the handle, the allocator, the registry, a pass of it, the tables, and numbers

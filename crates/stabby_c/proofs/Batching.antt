@@ -1,5 +1,5 @@
 -- A batch, as far as it has come.
-use Rattle.std.proofs.Common.{◌≡◌, ℕ, ◌+◌, ◌-◌, ◌<◌, ◌≤◌, List, length, take, drop, sym, ap, ◌∙◌, subst, arith, slice_index}
+use Rattle.std.proofs.Common.{◌≡◌, ℕ, suc, ◌+◌, ◌-◌, ◌<◌, ◌≤◌, List, length, take, drop, sym, ap, ◌∙◌, subst, arith, slice_index, Ok}
 use mathlib.Core.List.{IsPrefix}
 use mathlib.Core.Logic.{dite}
 use native.Mathlib.Decide.{ℕ_discrete}
@@ -12,6 +12,8 @@ use Rattle.stabby_registry.specs.Laws.{NumbersStay}
 use Rattle.stabby_registry.specs.Inserts.{IsNumber}
 use Rattle.stabby_registry.proofs.Agreeing.{numbers_stay}
 use Rattle.stabby_c.specs.Batches.{table_at, AreNumbered}
+use Rattle.stabby_c.specs.Clients.{TriesInsert, TriedEach}
+use Rattle.stabby_c.specs.declared.client.Client.{Client}
 
 -- the words of the first tables and those of the next one
 pub sum_more : (ls : List ℕ) (i n : ℕ) → i < length ls → n ≡ slice_index ls i → sum (take (i + 1) ls) ≡ sum (take i ls) + n
@@ -37,3 +39,10 @@ pub next_table : (words ls : List ℕ) (i from : ℕ) → from ≡ sum (take i l
 next_table words ls i from e =
     let long : (from + slice_index ls i) - from ≡ slice_index ls i = omega arith in
     ap (λ m. take m (drop from words)) long ∙ ap (λ f. take (slice_index ls i) (drop f words)) e
+
+-- one table more was tried
+pub each_more : (c d e : Client) (n number : ℕ) → TriedEach c n d → TriesInsert d e (Ok number) → TriedEach c (n + 1) e
+each_more c d e n number each tried =
+    let next : suc n ≡ n + 1 = omega arith in
+    let more : TriedEach c (suc n) e = (d, each, (number, tried)) in
+    subst (λ k. TriedEach c k e) next more

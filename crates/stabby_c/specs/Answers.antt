@@ -12,7 +12,7 @@ use Rattle.stabby_c.specs.declared.client.Client.{Client}
 use Rattle.stabby_c.specs.Codes.{code_of, of_insert, of_entry}
 use Rattle.stabby_c.specs.declared.answer.Answer.TheVariants.{Done, Malformed}
 use Rattle.stabby_c.specs.Batches.{IsMalformed, table_at, AreNumbered, StoppedAt}
-use Rattle.stabby_c.specs.Clients.{home_of, front_of, weight_of, IsAlone, IsSplitRefusal, OnlyLooked, AddsOrKnows, InsertFault, ReadFault, HasCopied}
+use Rattle.stabby_c.specs.Clients.{home_of, front_of, weight_of, IsAlone, IsSplitRefusal, OnlyLooked, AddsOrKnows, InsertFault, ReadFault, HasCopied, TriesInsert, TriesRead, TriedEach}
 
 -- the weight k was to be cut off c, which is d by now
 pub record SplitsHandle (c d : Client) (k code : ℕ) : Type 0 where
@@ -31,6 +31,7 @@ pub record TriedInsert (c d : Client) (t : Table) (code before after : ℕ) : Ty
   pub inserts : IfOk answer (AddsOrKnows c d t)
   pub distinct : OnOk answer (IsDistinct (front_of d))
   pub known : has (front_of c) t ≡ true → OnOk answer (OnlyLooked c d)
+  pub tried : TriesInsert c d answer
   pub refused : IfErr answer (λ fault. (after ≡ before) × InsertFault c d t fault)
   pub alone : IsAlone c → IfErr answer IsOwnFault
 
@@ -43,6 +44,7 @@ pub record TriedEntry (c d : Client) (number : ℕ) (code : ℕ) (words_before w
   pub entry : IfOk answer (λ found. MatchOption found
       ((length (front_of d) ≤ number) × (words_after ≡ words_before) × (length_after ≡ length_before))
       (λ n. (length_after ≡ n) × HasCopied (front_of d) number words_before words_after n))
+  pub tried : TriesRead c d answer
   pub refused : IfErr answer (λ fault. (words_after ≡ words_before) × (length_after ≡ length_before) × ReadFault c d fault)
 
 -- tries to insert the tables of a batch, one after the other until one is refused: `done` of them have their numbers
@@ -54,5 +56,5 @@ pub record TriedAll (c d : Client) (words lengths : List ℕ) (code : ℕ) (befo
   pub malformed : (answer ≡ Malformed) ↔ IsMalformed words lengths before
   pub unchanged : answer ≡ Malformed → (d ≡ c) × (done ≡ 0) × (after ≡ before)
   pub numbers : AreNumbered (front_of d) words lengths after done
-  pub all : answer ≡ Done → done ≡ length lengths
-  pub stopped : answer ≢ Done → answer ≢ Malformed → (done < length lengths) × StoppedAt c d (table_at words lengths done) answer
+  pub all : answer ≡ Done → (done ≡ length lengths) × TriedEach c done d
+  pub stopped : answer ≢ Done → answer ≢ Malformed → (done < length lengths) × StoppedAt c d done (table_at words lengths done) answer

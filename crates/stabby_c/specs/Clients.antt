@@ -1,10 +1,14 @@
 -- What contracts say of a client, and of what a call did to it.
-use Rattle.std.specs.Prelude.{◌≡◌, ◌≢◌, ℕ, ◌+◌, ◌^◌, ◌<◌, ◌≤◌, ◌⊎◌, List, ◌++◌, length, take, drop}
+use Rattle.std.specs.Prelude.{◌≡◌, ◌≢◌, ℕ, zero, suc, ◌+◌, ◌^◌, ◌<◌, ◌≤◌, ◌⊎◌, List, [], ◌∷◌, ◌++◌, length, take, drop, Result, Ok, Err}
 use Rattle.std.specs.Arc.{arc_value}
 use mathlib.Core.List.{IsPrefix}
 use Rattle.stabby_cell.specs.declared.fault.CellFault.{CellFault}
 use Rattle.stabby_tables.specs.Tables.{Table}
 use Rattle.stabby_registry.specs.declared.fault.TryFault.{TryFault}
+use Rattle.stabby_registry.specs.declared.fault.TryFault.TheVariants as once
+use Rattle.stabby_cell.specs.Telling.{noted}
+use Rattle.stabby_cell.specs.declared.view.StepKind.TheVariants.{Look}
+use Rattle.stabby_registry.specs.Tries.{HasTriedInsert, HasTriedRead}
 use Rattle.stabby_registry.specs.Passes as pass
 use Rattle.stabby_registry.specs.Inserts.{IsNumber, InsertsTable, IsTryFault, IsReadFault}
 use Rattle.stabby_c.specs.declared.answer.Answer.{Answer}
@@ -91,6 +95,23 @@ InsertFault c d t fault = IsTryFault c.pass d.pass t fault
 -- why one try to read was refused, and what stands
 abbrev pub ReadFault : Client → Client → CellFault → Type 0
 ReadFault c d fault = IsReadFault c.pass d.pass fault
+
+-- the steps of one try to insert, or none where memory was wanting before the try
+abbrev pub TriesInsert : Client → Client → Result ℕ TryFault → Type 0
+TriesInsert c d answer = HasTriedInsert c.pass d.pass answer ⊎ ((answer ≡ Err once.Memory) × (d.pass ≡ c.pass))
+
+-- the steps of one try to read
+abbrev pub TriesRead : {A : Type 0} → Client → Client → Result A CellFault → Type 0
+TriesRead c d answer = HasTriedRead c.pass d.pass answer
+
+-- the count was read once, and was n
+abbrev pub ReadsCount : Client → Client → ℕ → Type 0
+ReadsCount c d n = pass.Advances c.pass d.pass (noted Look n ∷ [])
+
+-- n tables were tried, one after another and each once, and each has a number
+abbrev pub TriedEach : Client → ℕ → Client → Type 0
+TriedEach c zero d = d ≡ c
+TriedEach c (suc n) d = (before : Client) × TriedEach c n before × ((number : ℕ) × TriesInsert before d (Ok number))
 
 -- `after` is `before` with the words of the table with this number in front, as many as there is room for; it has n words
 pub record HasCopied (front : List Table) (number : ℕ) (before after : List ℕ) (n : ℕ) : Type 0 where

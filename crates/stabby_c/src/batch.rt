@@ -24,7 +24,7 @@ fn add_up(lengths: &[usize], words: usize) -> bool
 }
 
 impl Client {
-    ghost use Rattle.stabby_c.specs.Clients.{home_of, front_of};
+    ghost use Rattle.stabby_c.specs.Clients.{home_of, front_of, TriedEach};
     ghost use Rattle.stabby_c.specs.Batches.{IsMalformed, table_at, AreNumbered, StoppedAt};
 
     /// The numbers of many tables, by one try for each, in order. The words of the tables lie behind one another.
@@ -45,9 +45,9 @@ impl Client {
         ensures malformed { (result ≡ Malformed) ↔ IsMalformed words.now lengths.now numbers.old }
         ensures unchanged { result ≡ Malformed → (self.new ≡ self.old) × (done.new ≡ 0) × (numbers.new ≡ numbers.old) }
         ensures numbers { AreNumbered (front_of self.new) words.now lengths.now numbers.new done.new }
-        ensures all { result ≡ Done → done.new ≡ length lengths.now }
+        ensures all { result ≡ Done → (done.new ≡ length lengths.now) × TriedEach self.old done.new self.new }
         ensures stopped { result ≢ Done → result ≢ Malformed → (done.new < length lengths.now)
-            × StoppedAt self.old self.new (table_at words.now lengths.now done.new) result }
+            × StoppedAt self.old self.new done.new (table_at words.now lengths.now done.new) result }
     {
         *done = 0;
         if numbers.len() < lengths.len() || !add_up(lengths, words.len()) {

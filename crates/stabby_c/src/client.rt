@@ -32,7 +32,7 @@ pub struct Client {
 }
 
 impl Client {
-    ghost use Rattle.stabby_c.specs.Clients.{home_of, number_of, front_of, weight_of, IsAlone, IsNewClient, SplitsOff, IsSplitRefusal, IsForeign, JoinsClient, OnlyLooked, ReadFault, InsertFault, AddsOrKnows, HasCopied};
+    ghost use Rattle.stabby_c.specs.Clients.{home_of, number_of, front_of, weight_of, IsAlone, IsNewClient, SplitsOff, IsSplitRefusal, IsForeign, JoinsClient, OnlyLooked, ReadFault, InsertFault, AddsOrKnows, HasCopied, TriesInsert, TriesRead, ReadsCount};
 
     /// The first client of a new registry that this number names.
     ///
@@ -115,6 +115,7 @@ impl Client {
         ensures inserts { IfOk result (AddsOrKnows self.old self.new words.now) }
         ensures distinct { OnOk result (IsDistinct (front_of self.new)) }
         ensures known { has (front_of self.old) words.now ≡ true → OnOk result (OnlyLooked self.old self.new) }
+        ensures tried { TriesInsert self.old self.new result }
         ensures refused { IfErr result (InsertFault self.old self.new words.now) }
         ensures alone { IsAlone self.old → IfErr result IsOwnFault }
     {
@@ -126,6 +127,7 @@ impl Client {
     pub fn count(&mut self) -> u64
         ensures same { home_of self.new ≡ home_of self.old }
         ensures count { result ≡ length (front_of self.new) }
+        ensures looked { ReadsCount self.old self.new result }
         ensures front { IsPrefix (front_of self.old) (front_of self.new) }
     {
         self.home.registry.look(&mut self.pass)
@@ -143,6 +145,7 @@ impl Client {
         ensures entry { IfOk result (λ found. MatchOption found (length (front_of self.new) ≤ number)
             (HasCopied (front_of self.new) number words.old words.new)) }
         ensures absent { IfOk result (λ found. MatchOption found (words.new ≡ words.old) (λ n. Unit {0})) }
+        ensures tried { TriesRead self.old self.new result }
         ensures refused { IfErr result (ReadFault self.old self.new) }
         ensures unchanged { OnErr result (words.new ≡ words.old) }
     {

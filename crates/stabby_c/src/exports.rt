@@ -2,7 +2,7 @@
 
 ghost use Rattle.std.specs.Prelude.{◌≡◌, ◌≢◌, ◌↔◌, length};
 ghost use mathlib.Core.List.{IsPrefix};
-ghost use Rattle.stabby_c.specs.Clients.{home_of, front_of, weight_of, TellsApart, IsForeign, JoinsClient};
+ghost use Rattle.stabby_c.specs.Clients.{home_of, front_of, weight_of, TellsApart, IsForeign, JoinsClient, ReadsCount};
 ghost use Rattle.stabby_c.specs.Handles.{IsAddress};
 ghost use Rattle.stabby_c.specs.Answers.{SplitsHandle, TriedInsert, TriedAll, TriedEntry};
 
@@ -99,6 +99,7 @@ pub extern "C" fn stabby_client_weight(client: &mut Handle) -> u64
 pub extern "C" fn stabby_client_count(client: &mut Handle) -> u64
     ensures same { home_of client.new.value ≡ home_of client.old.value }
     ensures count { result ≡ length (front_of client.new.value) }
+    ensures looked { ReadsCount client.old.value client.new.value result }
     ensures front { IsPrefix (front_of client.old.value) (front_of client.new.value) }
 {
     client.client().count()

@@ -11,7 +11,7 @@ use Rattle.atomic_table.proofs.Lists.{exchanged}
 use Rattle.stabby_count_word.specs.Rights.{Cuts}
 use Rattle.stabby_count.specs.declared.view.View.{View}
 use Rattle.stabby_count.specs.Rule.{Rule}
-use Rattle.stabby_count.specs.Tells.{Reads, Told, ToldWhere, ToldSole, ToldNothing}
+use Rattle.stabby_count.specs.Tells.{Reads, Told, ToldWhere, ToldSole, ToldNone, ToldNothing}
 use Rattle.stabby_count.specs.Views.{looked, looked_sole, cloned, ended_strong, took, downgraded, upgraded, ended_weak, without_strong, with_strong, without_weak, with_weak, HasShare, HasStrong, HasWeak}
 use Rattle.stabby_count.proofs.Rows.{flag, due, reading, looks, rests, sole_look_row, clone_row, upgrade_row, downgrade_row, end_strong_row, end_weak_row, take_row, strong_split_row, weak_split_row, sole_reads}
 
@@ -22,12 +22,12 @@ there (z ∷ zs) zero x at = ap Some (some-injective z x at)
 there (z ∷ zs) (suc i) x at = there zs i x at
 
 reads : (n id : ℕ) (views : List View) (v : View) → Rule n views → slice_get views id ≡ Some v → Reads v n
-reads n id views v rule at = record {
-  sole = sole_reads n id views v rule at;
-  strong = reading n id views v rule at v _ (λ a b c d e f g h i j l m p q r x y z s₁ s₂ s₃ s₄ s₅ s₆. omega arith);
-  weak = reading n id views v rule at v _ (λ a b c d e f g h i j l m p q r x y z s₁ s₂ s₃ s₄ s₅ s₆. omega arith);
-  unit = λ has. reading n id views v rule at v _ (λ a b c d e f g h i j l m p q r x y z s₁ s₂ s₃ s₄ s₅ s₆. omega arith);
-}
+reads n id views v rule at = (
+  sole_reads n id views v rule at,
+  reading n id views v rule at v _ (λ a b c d e f g h i j l m p q r x y z s₁ s₂ s₃ s₄ s₅ s₆. omega arith),
+  reading n id views v rule at v _ (λ a b c d e f g h i j l m p q r x y z s₁ s₂ s₃ s₄ s₅ s₆. omega arith),
+  λ has. reading n id views v rule at v _ (λ a b c d e f g h i j l m p q r x y z s₁ s₂ s₃ s₄ s₅ s₆. omega arith),
+)
 
 -- a step that finds any word and leaves f of it
 any_word : (id : ℕ) (v : View) (view : View → ℕ → View) (f : ℕ → ℕ) → ((n : ℕ) (views : List View) → Rule n views → slice_get views id ≡ Some v → n < 18446744073709551616 → Rule (f n) (set views id (view v n)))
@@ -46,6 +46,11 @@ keeps_look id v = any_word id v looked (λ n. n) (λ n views rule at small. look
 
 pub keeps_rest : (id : ℕ) (v : View) → Keeps Rule id v (λ n. n) (ToldNothing 0 0 v)
 keeps_rest id v n views rule at small = (v, rests n id views v rule (there views id v at), refl)
+
+pub keeps_glance : (id : ℕ) (v : View) → Keeps Rule id v (λ n. n) (ToldNone 0 0 v)
+keeps_glance id v n views rule at small = let here = there views id v at in dite (ℕ_discrete (n / 4294967296) 0)
+    (λ is. (looked v n, looks n id views v rule here, ((λ _. refl), (λ isnt. absurd (isnt is)))))
+    (λ isnt. (v, rests n id views v rule here, ((λ is. absurd (isnt is)), (λ _. refl))))
 
 pub keeps_look_sole : (id : ℕ) (v : View) → HasStrong v → Keeps Rule id v (λ n. n) (ToldSole 0 0 v)
 keeps_look_sole id v has n views rule at small = let here = there views id v at in dite (ℕ_discrete n 4294967297)
@@ -73,11 +78,11 @@ less : (n k : ℕ) → k ≤ n → k < 18446744073709551616 → n < 184467440737
 less n k has fits small = omega arith
 
 pub keeps_end_strong : (id : ℕ) (v : View) → v.strong ≡ 1 → v.weak ≡ 0 → Keeps Rule id v (λ n. (n + (18446744073709551616 - 4294967296)) % 18446744073709551616) (Told ended_strong 0 0 v)
-keeps_end_strong id v one none_ = any_word id v ended_strong _ (λ n views rule at small. let has = (reads n id views v rule at).strong in
+keeps_end_strong id v one none_ = any_word id v ended_strong _ (λ n views rule at small. let has = (reads n id views v rule at).1 in
     subst (λ m. Rule m (set views id (ended_strong v n))) (let e : n - 4294967296 ≡ (n + (18446744073709551616 - 4294967296)) % 18446744073709551616 = omega arith in e) (end_strong_row n id views v rule at one none_).rule)
 
 pub keeps_end_weak : (id : ℕ) (v : View) → v.weak ≡ 1 → v.strong ≡ 0 → Keeps Rule id v (λ n. (n + (18446744073709551616 - 1)) % 18446744073709551616) (Told ended_weak 0 0 v)
-keeps_end_weak id v one none_ = any_word id v ended_weak _ (λ n views rule at small. let has = (reads n id views v rule at).weak in
+keeps_end_weak id v one none_ = any_word id v ended_weak _ (λ n views rule at small. let has = (reads n id views v rule at).2 in
     subst (λ m. Rule m (set views id (ended_weak v n))) (let e : n - 1 ≡ (n + (18446744073709551616 - 1)) % 18446744073709551616 = omega arith in e) (end_weak_row n id views v rule at none_ one).rule)
 
 pub keeps_take : (id : ℕ) (v : View) → v.due ≡ 1 → Keeps Rule id v (λ n. (n + (18446744073709551616 - 1)) % 18446744073709551616) (Told took 0 0 v)

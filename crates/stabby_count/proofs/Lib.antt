@@ -4,5 +4,6 @@ pub mod Totals
 pub mod Machines
 pub mod Rows
 pub mod Kept
+pub mod Looks
 pub mod Lenders
 pub mod SliceLoans

@@ -9,7 +9,7 @@ use Rattle.stabby_count_word.specs.RawBoxes.{with_value}
 use Rattle.stabby_count_word.specs.contracts.raw_box.RawBox as boxed
 use Rattle.stabby_count_word.specs.declared.raw_box.RawBox.{RawBox}
 use Rattle.stabby_vec.specs.Sequence.{Sequence, with_items}
-use Rattle.stabby_vec.specs.contracts.sequence.Vec as list
+use Rattle.stabby_vec.specs.contracts.vec.sequence.Vec as list
 
 -- a list on the heap, as the logic names its type
 abbrev pub list_row : RattleType → RattleType

@@ -6,6 +6,7 @@ pub mod Rows
 pub mod Tells
 pub mod Held
 pub mod Records
+pub mod Raising
 pub mod Shared
 pub mod Loans
 pub mod SharedSlices

@@ -4,11 +4,8 @@ use Rattle.stabby_count.specs.declared.view.View.{View}
 use Rattle.stabby_count.specs.Views.{looked, looked_sole}
 
 -- the word has at least the view's own shares, and is one strong and one weak where the view is sole
-pub record Reads (v : View) (n : ℕ) : Type 0 where
-  pub sole : 0 < v.sole → n ≡ 2 ^ 32 + 1
-  pub strong : v.strong ≤ n / 2 ^ 32
-  pub weak : v.weak ≤ n % 2 ^ 32
-  pub unit : 0 < v.strong → v.weak < n % 2 ^ 32
+abbrev pub Reads : View → ℕ → Type 0
+Reads v n = (0 < v.sole → n ≡ 2 ^ 32 + 1) × (v.strong ≤ n / 2 ^ 32) × (v.weak ≤ n % 2 ^ 32) × (0 < v.strong → v.weak < n % 2 ^ 32)
 
 -- a step that finds any word
 abbrev pub Told : (View → ℕ → View) → ℕ → ℕ → View → ℕ → View → Type 0
@@ -21,6 +18,10 @@ ToldWhere view old new v n w = (n ≡ old → w ≡ view v n) × (n ≢ old → 
 -- a look that makes a view sole where it reads one strong and one weak
 abbrev pub ToldSole : ℕ → ℕ → View → ℕ → View → Type 0
 ToldSole old new v n w = (n ≡ 2 ^ 32 + 1 → w ≡ looked_sole v n) × (n ≢ 2 ^ 32 + 1 → w ≡ looked v n) × Reads v n
+
+-- a load that the record notes where it finds no strong handle, for a call answers from it there
+abbrev pub ToldNone : ℕ → ℕ → View → ℕ → View → Type 0
+ToldNone old new v n w = (n / 2 ^ 32 ≡ 0 → w ≡ looked v n) × (n / 2 ^ 32 ≢ 0 → w ≡ v)
 
 -- a load that no call answers from, and that the record does not note
 abbrev pub ToldNothing : ℕ → ℕ → View → ℕ → View → Type 0

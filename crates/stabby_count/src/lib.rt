@@ -5,6 +5,7 @@
 mod fault;
 pub mod laws;
 mod machine;
+mod raise;
 mod slice;
 mod slice_loan;
 mod slice_traits;
@@ -14,6 +15,7 @@ mod text;
 mod text_traits;
 mod view;
 mod weak;
+mod word;
 mod word_steps;
 
 pub use fault::{CountFault, TryCountFault};

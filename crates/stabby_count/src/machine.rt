@@ -1,4 +1,5 @@
 //! The handle machine: what each step on the counts of one shared value does and answers.
+use crate::word::{COUNT_LIMIT, ONE_STRONG};
 use std::marker::Model;
 
 /// A step on the counts.
@@ -49,10 +50,6 @@ pub enum Reply {
     /// There is no handle, or no value that is due, for such a step. Nothing changed.
     NotHeld,
 }
-
-const COUNT_LIMIT: u64 = 4294967295;
-
-const ONE_STRONG: u64 = 4294967296;
 
 /// Counts the strong and the weak handles of one value, each up to 2^32 - 1.
 ///

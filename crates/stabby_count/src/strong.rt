@@ -4,12 +4,13 @@ ghost use Rattle.stabby_count.specs.Held.{kind_by, sole_by};
 ghost use Rattle.stabby_count_word.specs.Kinds.{last};
 
 use crate::fault::{CountFault, TryCountFault};
+use crate::raise::{Raise, RaiseFault, try_raise, wait_to_raise};
 use crate::spent::Spent;
 use crate::view::View;
 use crate::weak::Weak;
+use crate::word::{ALONE, ONE_STRONG};
 use crate::word_steps::{
-    Clone as CloneStep, Downgrade, EndSole, EndStrong, GiveStrong, GiveWeak, Look, LookSole, Rest,
-    SharedCounts, Take,
+    EndSole, EndStrong, GiveStrong, GiveWeak, Look, LookSole, Rest, SharedCounts, Take,
 };
 use stabby_count_word::{CountWord, Permission, RawBox, Seat};
 use stabby_layout::AllocationError;
@@ -18,12 +19,6 @@ use std::alloc::{AllocError, AllocFailed, Global};
 use std::mem;
 use std::ops::Deref;
 use std::sync::{Arc as Block, Wait};
-
-pub(crate) const COUNT_LIMIT: u64 = 4294967295;
-
-pub(crate) const ONE_STRONG: u64 = 4294967296;
-
-const ALONE: u64 = 4294967297;
 
 /// A strong handle of a shared value.
 ///
@@ -198,18 +193,17 @@ impl<T> Arc<T> {
         let Ok(block) = Block::try_clone(&self.block) else {
             return Err(TryCountFault::Memory);
         };
-        let first = self.block.look::<Look>(&mut self.seat);
-        if first / ONE_STRONG == COUNT_LIMIT {
-            return Err(TryCountFault::Full { word: first });
-        }
-        let second = self.block.clone_strong::<CloneStep>(
+        match try_raise(
+            &self.block,
             &mut self.seat,
             &mut self.permission,
-            first,
-            first + ONE_STRONG,
-        );
-        if second != first {
-            return Err(TryCountFault::Moved { first, second });
+            Raise::Clone,
+        ) {
+            Ok(()) => {}
+            Err(RaiseFault::Moved { first, second }) => {
+                return Err(TryCountFault::Moved { first, second });
+            }
+            Err(RaiseFault::Refused { word }) => return Err(TryCountFault::Full { word }),
         }
         let permission = self.permission.split();
         let seat = self.block.split_seat::<GiveStrong>(&mut self.seat);
@@ -239,15 +233,17 @@ impl<T> Arc<T> {
         let Ok(block) = Block::try_clone(&self.block) else {
             return Err(TryCountFault::Memory);
         };
-        let first = self.block.look::<Look>(&mut self.seat);
-        if first % ONE_STRONG == COUNT_LIMIT {
-            return Err(TryCountFault::Full { word: first });
-        }
-        let second = self
-            .block
-            .downgrade::<Downgrade>(&mut self.seat, &mut self.permission, first, first + 1);
-        if second != first {
-            return Err(TryCountFault::Moved { first, second });
+        match try_raise(
+            &self.block,
+            &mut self.seat,
+            &mut self.permission,
+            Raise::Downgrade,
+        ) {
+            Ok(()) => {}
+            Err(RaiseFault::Moved { first, second }) => {
+                return Err(TryCountFault::Moved { first, second });
+            }
+            Err(RaiseFault::Refused { word }) => return Err(TryCountFault::Full { word }),
         }
         let permission = self.permission.split();
         let seat = self.block.split_seat::<GiveWeak>(&mut self.seat);
@@ -280,20 +276,29 @@ impl<T> Arc<T> {
         ensures sole { IsSole self.old → IfErr result (λ fault. fault ≡ Memory) }
         ensures kept { IsSameArc self.old self.new }
     {
-        for _ in rt.forever() {
-            match self.try_clone() {
-                Ok(other) => return Ok(other),
-                Err(
-                    TryCountFault::Moved {
-                        first: _,
-                        second: _,
-                    },
-                ) => {}
-                Err(TryCountFault::Full { word }) => return Err(CountFault::Full { word }),
-                Err(TryCountFault::Memory) => return Err(CountFault::Memory),
-            }
+        self.settle();
+        let Ok(block) = Block::try_clone(&self.block) else {
+            return Err(CountFault::Memory);
+        };
+        match wait_to_raise(
+            rt,
+            &self.block,
+            &mut self.seat,
+            &mut self.permission,
+            Raise::Clone,
+        ) {
+            Ok(()) => {}
+            Err(word) => return Err(CountFault::Full { word }),
         }
-        unreachable!()
+        let permission = self.permission.split();
+        let seat = self.block.split_seat::<GiveStrong>(&mut self.seat);
+        Ok(Arc {
+            block,
+            seat,
+            permission,
+            own: None,
+            alloc: self.alloc,
+        })
     }
 
     /// One weak handle of the same value. It tries again where another handle was in the way.
@@ -309,20 +314,28 @@ impl<T> Arc<T> {
         ensures sole { IsSole self.old → IfErr result (λ fault. fault ≡ Memory) }
         ensures kept { IsSameArc self.old self.new }
     {
-        for _ in rt.forever() {
-            match self.try_downgrade() {
-                Ok(weak) => return Ok(weak),
-                Err(
-                    TryCountFault::Moved {
-                        first: _,
-                        second: _,
-                    },
-                ) => {}
-                Err(TryCountFault::Full { word }) => return Err(CountFault::Full { word }),
-                Err(TryCountFault::Memory) => return Err(CountFault::Memory),
-            }
+        self.settle();
+        let Ok(block) = Block::try_clone(&self.block) else {
+            return Err(CountFault::Memory);
+        };
+        match wait_to_raise(
+            rt,
+            &self.block,
+            &mut self.seat,
+            &mut self.permission,
+            Raise::Downgrade,
+        ) {
+            Ok(()) => {}
+            Err(word) => return Err(CountFault::Full { word }),
         }
-        unreachable!()
+        let permission = self.permission.split();
+        let seat = self.block.split_seat::<GiveWeak>(&mut self.seat);
+        Ok(Weak {
+            block,
+            seat,
+            permission,
+            alloc: self.alloc,
+        })
     }
 }
 

@@ -3,10 +3,12 @@ ghost use Rattle.std.specs.Prelude.{◌≡◌};
 ghost use Rattle.stabby_count_word.specs.Kinds.{one_weak};
 
 use crate::fault::{CountFault, TryCountFault};
+use crate::raise::{Raise, RaiseFault, try_raise, wait_to_raise};
 use crate::spent::Spent;
-use crate::strong::{Arc, COUNT_LIMIT, ONE_STRONG};
+use crate::strong::Arc;
 use crate::view::View;
-use crate::word_steps::{Downgrade, EndWeak, GiveStrong, GiveWeak, Look, SharedCounts, Upgrade};
+use crate::word::ONE_STRONG;
+use crate::word_steps::{EndWeak, GiveStrong, GiveWeak, Glance, SharedCounts};
 use stabby_count_word::{CountWord, Permission, Seat};
 use std::alloc::Global;
 use std::mem;
@@ -23,10 +25,19 @@ pub struct Weak<T> {
 }
 
 impl<T> Weak<T> {
-    ghost use Rattle.std.specs.Prelude.{◌≡◌, ◌<◌, ◌++◌, ◌∷◌, [], IfOk, IfErr, IfSome, IfNone, OnOk, OnSome};
+    ghost use Rattle.std.specs.Prelude.{◌≡◌, ◌<◌, ◌++◌, ◌∷◌, [], IsTrue, IfOk, IfErr, IfSome, IfNone, OnOk, OnSome, false};
     ghost use Rattle.stabby_count.specs.Shared.{arc_value, arc_block, arc_record, weak_value, weak_block, weak_record, spent_block, spent_record, spent_word, IsShared, IsSameWeak};
     ghost use Rattle.stabby_count.specs.Records.{Raises, RaisesAfterLooks, Refuses, RefusesTry, Upgrades, UpgradesAfterLooks, FindsNone, FindsNoneAfterLooks, note, strong_of, weak_of};
     ghost use Rattle.stabby_count.specs.declared.machine.Step.TheVariants.{Downgrade as DowngradeNote, EndWeak as EndNote};
+
+    // One load, which is a look where it finds no strong handle.
+    fn finds_none(&mut self) -> bool
+        ensures none { IsTrue result → FindsNone (weak_record self.old) (weak_record self.new) }
+        ensures some { result ≡ false → weak_record self.new ≡ weak_record self.old }
+        ensures kept { IsSameWeak self.old self.new }
+    {
+        self.block.look::<Glance>(&mut self.seat) / ONE_STRONG == 0
+    }
 
     /// A strong handle of the same value, by one try. It is shared, for another one is there.
     ///
@@ -41,24 +52,28 @@ impl<T> Weak<T> {
         ensures fault { IfErr result (RefusesTry strong_of (weak_record self.old) (weak_record self.new)) }
         ensures kept { IsSameWeak self.old self.new }
     {
+        if self.finds_none() {
+            return Ok(None);
+        }
         let Ok(block) = Block::try_clone(&self.block) else {
             return Err(TryCountFault::Memory);
         };
-        let first = self.block.look::<Look>(&mut self.seat);
-        if first / ONE_STRONG == 0 {
-            return Ok(None);
-        }
-        if first / ONE_STRONG == COUNT_LIMIT {
-            return Err(TryCountFault::Full { word: first });
-        }
-        let second = self.block.upgrade::<Upgrade>(
+        match try_raise(
+            &self.block,
             &mut self.seat,
             &mut self.permission,
-            first,
-            first + ONE_STRONG,
-        );
-        if second != first {
-            return Err(TryCountFault::Moved { first, second });
+            Raise::Upgrade,
+        ) {
+            Ok(()) => {}
+            Err(RaiseFault::Moved { first, second }) => {
+                return Err(TryCountFault::Moved { first, second });
+            }
+            Err(RaiseFault::Refused { word }) => {
+                if word / ONE_STRONG == 0 {
+                    return Ok(None);
+                }
+                return Err(TryCountFault::Full { word });
+            }
         }
         let kept = self.permission.split();
         let permission = mem::replace(&mut self.permission, kept);
@@ -70,37 +85,6 @@ impl<T> Weak<T> {
             own: None,
             alloc: self.alloc,
         }))
-    }
-
-    fn try_clone(&mut self) -> Result<Weak<T>, TryCountFault>
-        ensures value { IfOk result (λ other. weak_value other ≡ weak_value self.old) }
-        ensures block { IfOk result (λ other. weak_block other ≡ weak_block self.old) }
-        ensures added { OnOk result (Raises DowngradeNote weak_of (weak_record self.old) (weak_record self.new)) }
-        ensures copied { IfOk result (λ other. weak_record other ≡ weak_record self.new) }
-        ensures fault { IfErr result (RefusesTry weak_of (weak_record self.old) (weak_record self.new)) }
-        ensures kept { IsSameWeak self.old self.new }
-    {
-        let Ok(block) = Block::try_clone(&self.block) else {
-            return Err(TryCountFault::Memory);
-        };
-        let first = self.block.look::<Look>(&mut self.seat);
-        if first % ONE_STRONG == COUNT_LIMIT {
-            return Err(TryCountFault::Full { word: first });
-        }
-        let second = self
-            .block
-            .clone_weak::<Downgrade>(&mut self.seat, &mut self.permission, first, first + 1);
-        if second != first {
-            return Err(TryCountFault::Moved { first, second });
-        }
-        let permission = self.permission.split();
-        let seat = self.block.split_seat::<GiveWeak>(&mut self.seat);
-        Ok(Weak {
-            block,
-            seat,
-            permission,
-            alloc: self.alloc,
-        })
     }
 
     /// A strong handle of the same value. It tries again where another handle was in the way.
@@ -116,20 +100,37 @@ impl<T> Weak<T> {
         ensures fault { IfErr result (Refuses strong_of (weak_record self.old) (weak_record self.new)) }
         ensures kept { IsSameWeak self.old self.new }
     {
-        for _ in rt.forever() {
-            match self.try_upgrade() {
-                Ok(found) => return Ok(found),
-                Err(
-                    TryCountFault::Moved {
-                        first: _,
-                        second: _,
-                    },
-                ) => {}
-                Err(TryCountFault::Full { word }) => return Err(CountFault::Full { word }),
-                Err(TryCountFault::Memory) => return Err(CountFault::Memory),
+        if self.finds_none() {
+            return Ok(None);
+        }
+        let Ok(block) = Block::try_clone(&self.block) else {
+            return Err(CountFault::Memory);
+        };
+        match wait_to_raise(
+            rt,
+            &self.block,
+            &mut self.seat,
+            &mut self.permission,
+            Raise::Upgrade,
+        ) {
+            Ok(()) => {}
+            Err(word) => {
+                if word / ONE_STRONG == 0 {
+                    return Ok(None);
+                }
+                return Err(CountFault::Full { word });
             }
         }
-        unreachable!()
+        let kept = self.permission.split();
+        let permission = mem::replace(&mut self.permission, kept);
+        let seat = self.block.split_seat::<GiveStrong>(&mut self.seat);
+        Ok(Some(Arc {
+            block,
+            seat,
+            permission,
+            own: None,
+            alloc: self.alloc,
+        }))
     }
 
     /// One more weak handle of the same value. It tries again where another handle was in the way.
@@ -141,20 +142,27 @@ impl<T> Weak<T> {
         ensures fault { IfErr result (Refuses weak_of (weak_record self.old) (weak_record self.new)) }
         ensures kept { IsSameWeak self.old self.new }
     {
-        for _ in rt.forever() {
-            match self.try_clone() {
-                Ok(other) => return Ok(other),
-                Err(
-                    TryCountFault::Moved {
-                        first: _,
-                        second: _,
-                    },
-                ) => {}
-                Err(TryCountFault::Full { word }) => return Err(CountFault::Full { word }),
-                Err(TryCountFault::Memory) => return Err(CountFault::Memory),
-            }
+        let Ok(block) = Block::try_clone(&self.block) else {
+            return Err(CountFault::Memory);
+        };
+        match wait_to_raise(
+            rt,
+            &self.block,
+            &mut self.seat,
+            &mut self.permission,
+            Raise::WeakClone,
+        ) {
+            Ok(()) => {}
+            Err(word) => return Err(CountFault::Full { word }),
         }
-        unreachable!()
+        let permission = self.permission.split();
+        let seat = self.block.split_seat::<GiveWeak>(&mut self.seat);
+        Ok(Weak {
+            block,
+            seat,
+            permission,
+            alloc: self.alloc,
+        })
     }
 
     /// Ends the handle by one step, which released the block exactly where it read the word 1.

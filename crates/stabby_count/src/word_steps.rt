@@ -33,6 +33,15 @@ impl CountStep<View> for LookSole {
     ghost then = { ToldSole };
 }
 
+/// A load that is a look only where it finds no strong handle: a call answers from it there, and nowhere else.
+pub(crate) struct Glance;
+
+impl CountStep<View> for Glance {
+    ghost use Rattle.stabby_count.specs.Tells.{ToldNone};
+
+    ghost then = { ToldNone };
+}
+
 /// A load that is no look: the handle brings its value back before a step of its own.
 pub(crate) struct Rest;
 

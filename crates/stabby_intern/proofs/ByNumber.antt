@@ -1,7 +1,8 @@
 -- The tables in the order of their numbers, read off at the places of their entries.
 use Rattle.std.proofs.Common.{◌≡◌, ℕ, zero, suc, ◌<◌, ◌≤◌, ◌==◌, List, [], ◌∷◌, ◌++◌, length, map, get_or, take, refl, sym, ◌∙◌, ap, subst, arith, Bool, true, false, if◌then◌else◌, add-one}
 use mathlib.Core.Bool.{false≢true}
-use Rattle.std.specs.List.{range_with_len, All}
+use Rattle.std.specs.List.{range_with_len, All, slice_index}
+use Rattle.std.specs.Fmt.{decimal}
 use Rattle.std.proofs.lemmas.Bool.Decides.{nat_tests}
 use Rattle.std.proofs.lemmas.List.{map-append, length-map, take_more, take_all}
 use Rattle.std.proofs.lemmas.List.FromFn.{length-range_with_len, get_or-range_with_len, length-map-range_with_len, get_or-map-range_with_len, map-range_with_len_more}
@@ -57,6 +58,15 @@ can_rank_all es numbers count counted can = record {
       let low : k < count = omega (arith, lt, length-range_with_len 0 count) in
       rw (get_or-range_with_len 0 count k d low) (omega (arith, low, counted));
 }
+
+-- the places that all numbers in order have, read by other numbers
+pub ranks_at_places : (es : List Entry) (numbers places : List ℕ) → places ≡ map (entry_place es) (range_with_len 0 (length es)) → All (λ n. n < length es) numbers
+    → map (λ n. decimal (slice_index places n)) numbers ≡ map decimal (map (entry_place es) numbers)
+ranks_at_places es [] places is known = refl
+ranks_at_places es (n ∷ ns) places is known =
+    let low : n < length es = known 0 n (omega arith) in
+    let here : slice_index places n ≡ entry_place es n = rw is (get_or-map-range_with_len (entry_place es) 0 (length es) n n 0 low (omega arith)) in
+    rw (here, ranks_at_places es ns places is (λ k d lt. known (suc k) d (omega (arith, lt)))) refl
 
 -- ---- the entries of a list of distinct tables
 pair_place_by : (b c : Bool) (f s : List Table) (t u : Table) (n : ℕ) → (place f u == n) ≡ b → is_same u t ≡ c → place f t ≡ n → (has s t ≡ true → entry_place (map (λ v. (v, place f v)) s) n < length s)

@@ -46,10 +46,12 @@ pub fn parse_tables(alloc: Global, text: &[u8]) -> Result<Vec<WordTable>, ParseF
     ensures bad_word { (k : ℕ) → result ≡ Err (ParseFault.BadWord k) → IsBadAt (lines_of text.now) k }
 {
     let mut tables = Vec::new(alloc);
+    // One list for the words of each line in turn, which a table of few words copies without a block of its own.
+    let mut words = Vec::new(alloc);
     let mut rest = text;
     while !rest.is_empty() {
         let (line, after) = first_line(rest);
-        let Some(table) = parse_table(alloc, line)? else {
+        let Some(table) = parse_table(alloc, line, &mut words)? else {
             return Err(ParseFault::BadWord {
                 line: tables.len() as u64 + 1,
             });
@@ -60,8 +62,12 @@ pub fn parse_tables(alloc: Global, text: &[u8]) -> Result<Vec<WordTable>, ParseF
     Ok(tables)
 }
 
-// The table that a line spells.
-fn parse_table(alloc: Global, line: &[u8]) -> Result<Option<WordTable>, AllocationError>
+// The table that a line spells. `words` is a list to gather its words in, whatever is in it.
+fn parse_table(
+    alloc: Global,
+    line: &[u8],
+    words: &mut Vec<u64>,
+) -> Result<Option<WordTable>, AllocationError>
     ensures table { IfOk result (λ table. IfSome table (λ t. Spells line.now t)) }
     ensures none { IfOk result (λ table. IsNone table → SpellsNone line.now) }
     ensures memory { IfErr result (λ error. error ≡ AllocationError.Memory) }
@@ -69,7 +75,7 @@ fn parse_table(alloc: Global, line: &[u8]) -> Result<Option<WordTable>, Allocati
     if line.is_empty() {
         return Ok(Some(WordTable::from_vec(Vec::new(alloc))));
     }
-    let mut words = Vec::with_capacity(alloc, count_words(line))?;
+    words.clear();
     let mut value: u64 = 0;
     let mut begun = false;
     for b in line {
@@ -96,16 +102,7 @@ fn parse_table(alloc: Global, line: &[u8]) -> Result<Option<WordTable>, Allocati
         return Ok(None);
     }
     words.push(value)?;
-    Ok(Some(WordTable::from_vec(words)))
-}
-
-// One more than the spaces of a line, which is how many words it has if it spells a table.
-fn count_words(line: &[u8]) -> usize {
-    let mut count: usize = 1;
-    for b in line {
-        count = count.wrapping_add(usize::from(*b == b' '));
-    }
-    count
+    Ok(Some(WordTable::from_words(alloc, words)?))
 }
 
 // The first line of a text, and what follows its newline.

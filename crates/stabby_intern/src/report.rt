@@ -1,6 +1,6 @@
 //! The text of a report.
 
-ghost use Rattle.std.specs.Prelude.{◌≡◌, ◌++◌, ◌∷◌, ◌<◌, ◌≤◌, ◌^◌, ℕ, [], length, map, sum, IfOk, IfErr, OnOk, All, if◌then◌else◌};
+ghost use Rattle.std.specs.Prelude.{◌≡◌, ◌++◌, ◌∷◌, ◌<◌, ◌≤◌, ◌^◌, ℕ, [], length, map, sum, slice_index, IfOk, IfErr, OnOk, All, if◌then◌else◌};
 ghost use Rattle.std.specs.List.{range_with_len};
 ghost use Rattle.std.specs.Fmt.{decimal};
 ghost use Rattle.stabby_tables.specs.Lists.{ordered, IsDistinct};
@@ -78,9 +78,9 @@ fn make_rank_report(alloc: Global, interned: &Interned) -> Result<Vec<u8>, Alloc
     ensures memory { IfErr result (λ error. error ≡ AllocationError.Memory) }
 {
     let entries = interned.entries();
-    let ranks = ranks(alloc, entries, interned.numbers())?;
+    let places = ranks(alloc, entries, &numbers_below(alloc, entries.len())?)?;
     let mut report = Vec::new(alloc);
-    push_numbers(&mut report, &ranks)?;
+    push_ranks(&mut report, &places, interned.numbers())?;
     push_entries(&mut report, entries)?;
     Ok(report)
 }
@@ -108,6 +108,20 @@ fn push_numbers(report: &mut Vec<u8>, numbers: &[u64]) -> Result<(), AllocationE
 {
     for number in numbers {
         push_number(report, *number)?;
+        report.push(b'\n')?;
+    }
+    Ok(())
+}
+
+// A line for the place of each number, without a list of all these places.
+fn push_ranks(report: &mut Vec<u8>, places: &[u64], numbers: &[u64]) -> Result<(), AllocationError>
+    requires { All (λ n. n < length places.now) numbers.now }
+    ensures ranks { OnOk result (report.new.items
+        ≡ report.old.items ++ ended (map (λ n. decimal (slice_index places.now n)) numbers.now)) }
+    ensures memory { IfErr result (λ error. error ≡ AllocationError.Memory) }
+{
+    for number in numbers {
+        push_number(report, places[*number as usize])?;
         report.push(b'\n')?;
     }
     Ok(())

@@ -51,26 +51,26 @@ fn count_calls<H: Threads + Wait + Sync>(
     alloc: Global,
     failing_read: u64,
     failing_write: u64,
-) -> Result<Count, &'static str> {
+) -> Result<Count, Fail> {
     let mut words = Vec::new(alloc);
     for word in ["ranks", "1"] {
-        let word = String::from_str(alloc, word).map_err(|_| "memory")?;
-        words.push(word).map_err(|_| "memory")?;
+        let word = String::from_str(alloc, word)?;
+        words.push(word)?;
     }
-    let bytes = b"1\n2\n".to_vec(alloc).map_err(|_| "memory")?;
-    let read_fails = vec![in alloc; failing_read; 1].map_err(|_| "memory")?;
-    let write_fails = vec![in alloc; failing_write; 1].map_err(|_| "memory")?;
+    let bytes = b"1\n2\n".to_vec(alloc)?;
+    let read_fails = vec![in alloc; failing_read; 1]?;
+    let write_fails = vec![in alloc; failing_write; 1]?;
     let mut source = Counted {
         device: MemorySource::new(bytes, 2, read_fails),
         calls: 0,
     };
-    let sink = MemorySink::new(alloc, 100, 3, write_fails).map_err(|_| "memory")?;
+    let sink = MemorySink::new(alloc, 100, 3, write_fails)?;
     let mut out = Counted {
         device: sink,
         calls: 0,
     };
-    let mut log = MemorySink::new(alloc, 100, 7, Vec::new(alloc)).map_err(|_| "memory")?;
-    let (mut registry, mut pass) = VtBtree::<5>::new(alloc).map_err(|_| "memory")?;
+    let mut log = MemorySink::new(alloc, 100, 7, Vec::new(alloc))?;
+    let (mut registry, mut pass) = VtBtree::<5>::new(alloc)?;
     let status = run(
         rt,
         alloc,

@@ -50,7 +50,7 @@ struct Recorder {
 
 impl Recorder {
     // A recorder of at most so many calls.
-    fn new(alloc: Global, calls: usize) -> Result<Recorder, &'static str> {
+    fn new(alloc: Global, calls: usize) -> Result<Recorder, Fail> {
         let mut told = Vec::new(alloc);
         for _ in 0..calls {
             let none = Told {
@@ -59,7 +59,7 @@ impl Recorder {
                 place: AtomicU64::new(0),
                 number: AtomicU64::new(0),
             };
-            told.push(none).map_err(|_| "memory")?;
+            told.push(none)?;
         }
         Ok(Recorder {
             count: AtomicUsize::new(0),
@@ -120,9 +120,9 @@ fn run_tells_its_gate(rt: HostRuntime) -> Result<(), Fail> {
     words.push(String::from_str(alloc, "numbers")?)?;
     words.push(String::from_str(alloc, "1")?)?;
     let mut source = MemorySource::new(b"5\n3\n5\n".to_vec(alloc)?, 2, Vec::new(alloc));
-    let mut out = SureSink::new(alloc, 100).map_err(|_| "memory")?;
-    let mut log = SureSink::new(alloc, 100).map_err(|_| "memory")?;
-    let (mut registry, mut pass) = VtBtree::<5>::new(alloc).map_err(|_| "memory")?;
+    let mut out = SureSink::new(alloc, 100)?;
+    let mut log = SureSink::new(alloc, 100)?;
+    let (mut registry, mut pass) = VtBtree::<5>::new(alloc)?;
     let gate = Recorder::new(alloc, 12)?;
     let status = run(
         &rt,

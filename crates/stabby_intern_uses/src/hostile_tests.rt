@@ -36,21 +36,17 @@ fn leaves<H: Threads + Wait + Sync>(
     alloc: Global,
     hostile: Hostile,
     left: Left,
-) -> Result<bool, &'static str> {
+) -> Result<bool, Fail> {
     let mut words = Vec::new(alloc);
     for word in ["ranks", hostile.workers] {
-        let word = String::from_str(alloc, word).map_err(|_| "memory")?;
-        words.push(word).map_err(|_| "memory")?;
+        let word = String::from_str(alloc, word)?;
+        words.push(word)?;
     }
-    let bytes = hostile
-        .input
-        .as_bytes()
-        .to_vec(alloc)
-        .map_err(|_| "memory")?;
-    let read_fails = vec![in alloc; hostile.failing_read; 1].map_err(|_| "memory")?;
-    let write_fails = vec![in alloc; hostile.failing_write; 1].map_err(|_| "memory")?;
+    let bytes = hostile.input.as_bytes().to_vec(alloc)?;
+    let read_fails = vec![in alloc; hostile.failing_read; 1]?;
+    let write_fails = vec![in alloc; hostile.failing_write; 1]?;
     let mut source = MemorySource::new(bytes, 1, read_fails);
-    let mut out = MemorySink::new(alloc, 12, 1, write_fails).map_err(|_| "memory")?;
+    let mut out = MemorySink::new(alloc, 12, 1, write_fails)?;
     let mut log = MemorySink::new(alloc, hostile.room_of_log, 1, Vec::new(alloc)).map_err(
         |_| "memory",
     )?;
@@ -132,7 +128,7 @@ fn ten_thousand_empty_tables(rt: HostRuntime) -> Result<(), Fail> {
     for _ in 0..10_000u64 {
         tables.push(WordTable::from_vec(Vec::new(alloc)))?;
     }
-    let (mut registry, mut pass) = VtBtree::<5>::new(alloc).map_err(|_| "memory")?;
+    let (mut registry, mut pass) = VtBtree::<5>::new(alloc)?;
     let interned = intern_all(&rt, alloc, &mut registry, &mut pass, &tables, 64, &OpenGate).map_err(
         |_| "memory",
     )?;

@@ -28,18 +28,18 @@ fn run_over<S: Source, K: Sink, E: Sink, H: Threads + Wait + Sync>(
     source: &mut S,
     out: &mut K,
     log: &mut E,
-) -> Result<Ended, &'static str> {
+) -> Result<Ended, Fail> {
     let mut words = Vec::new(alloc);
     for word in command {
-        let word = String::from_str(alloc, *word).map_err(|_| "memory")?;
-        words.push(word).map_err(|_| "memory")?;
+        let word = String::from_str(alloc, *word)?;
+        words.push(word)?;
     }
-    let (status, seen) = run_fresh(rt, alloc, &words, source, out, log).map_err(|_| "memory")?;
+    let (status, seen) = run_fresh(rt, alloc, &words, source, out, log)?;
     Ok(Ended { status, seen })
 }
 
-fn source_of(alloc: Global, input: &str) -> Result<MemorySource, &'static str> {
-    let bytes = input.as_bytes().to_vec(alloc).map_err(|_| "memory")?;
+fn source_of(alloc: Global, input: &str) -> Result<MemorySource, Fail> {
+    let bytes = input.as_bytes().to_vec(alloc)?;
     Ok(MemorySource::new(bytes, 2, Vec::new(alloc)))
 }
 
@@ -79,10 +79,10 @@ fn leaves<H: Threads + Wait + Sync>(
     command: &[&str],
     input: &str,
     wanted: Wanted,
-) -> Result<bool, &'static str> {
+) -> Result<bool, Fail> {
     let mut source = source_of(alloc, input)?;
-    let mut out = MemorySink::new(alloc, 1000, 3, Vec::new(alloc)).map_err(|_| "memory")?;
-    let mut log = MemorySink::new(alloc, 100, 7, Vec::new(alloc)).map_err(|_| "memory")?;
+    let mut out = MemorySink::new(alloc, 1000, 3, Vec::new(alloc))?;
+    let mut log = MemorySink::new(alloc, 100, 7, Vec::new(alloc))?;
     let ended = run_over(rt, alloc, command, &mut source, &mut out, &mut log)?;
     Ok(
         ended.status == wanted.status
@@ -165,11 +165,11 @@ fn zeros_leave<H: Threads + Wait + Sync>(
     alloc: Global,
     zeros: usize,
     wanted: Wanted,
-) -> Result<bool, &'static str> {
-    let bytes = vec![in alloc; b'0'; zeros].map_err(|_| "memory")?;
+) -> Result<bool, Fail> {
+    let bytes = vec![in alloc; b'0'; zeros]?;
     let mut source = SureSource::new(bytes);
-    let mut out = MemorySink::new(alloc, 1000, 3, Vec::new(alloc)).map_err(|_| "memory")?;
-    let mut log = MemorySink::new(alloc, 100, 7, Vec::new(alloc)).map_err(|_| "memory")?;
+    let mut out = MemorySink::new(alloc, 1000, 3, Vec::new(alloc))?;
+    let mut log = MemorySink::new(alloc, 100, 7, Vec::new(alloc))?;
     let ended = run_over(rt, alloc, &["ranks", "1"], &mut source, &mut out, &mut log)?;
     Ok(
         ended.status == wanted.status
@@ -189,13 +189,13 @@ fn largest_input(rt: HostRuntime) -> Result<(), Fail> {
 }
 
 // Whether a run ends at the second read, which fails, with nothing written.
-fn ends_at_a_read<H: Threads + Wait + Sync>(rt: &H, alloc: Global) -> Result<bool, &'static str> {
+fn ends_at_a_read<H: Threads + Wait + Sync>(rt: &H, alloc: Global) -> Result<bool, Fail> {
     let mut fails = Vec::new(alloc);
-    fails.push(1).map_err(|_| "memory")?;
-    let bytes = b"1\n".to_vec(alloc).map_err(|_| "memory")?;
+    fails.push(1)?;
+    let bytes = b"1\n".to_vec(alloc)?;
     let mut source = MemorySource::new(bytes, 2, fails);
-    let mut out = MemorySink::new(alloc, 1000, 3, Vec::new(alloc)).map_err(|_| "memory")?;
-    let mut log = MemorySink::new(alloc, 100, 7, Vec::new(alloc)).map_err(|_| "memory")?;
+    let mut out = MemorySink::new(alloc, 1000, 3, Vec::new(alloc))?;
+    let mut log = MemorySink::new(alloc, 100, 7, Vec::new(alloc))?;
     let ended = run_over(rt, alloc, &["ranks", "1"], &mut source, &mut out, &mut log)?;
     Ok(
         ended.status == Status::ReadFault
@@ -211,10 +211,10 @@ fn ends_at_a_write<H: Threads + Wait + Sync>(
     alloc: Global,
     command: &[&str],
     taken: &str,
-) -> Result<bool, &'static str> {
+) -> Result<bool, Fail> {
     let mut source = source_of(alloc, "1 2\n3\n1 2\n")?;
-    let mut out = MemorySink::new(alloc, 3, 3, Vec::new(alloc)).map_err(|_| "memory")?;
-    let mut log = MemorySink::new(alloc, 100, 7, Vec::new(alloc)).map_err(|_| "memory")?;
+    let mut out = MemorySink::new(alloc, 3, 3, Vec::new(alloc))?;
+    let mut log = MemorySink::new(alloc, 100, 7, Vec::new(alloc))?;
     let ended = run_over(rt, alloc, command, &mut source, &mut out, &mut log)?;
     Ok(
         ended.status == Status::WriteFault
@@ -288,16 +288,16 @@ fn generated_report_of_many_tables(rt: HostRuntime) -> Result<(), Fail> {
 fn fault_of_the_log(rt: HostRuntime) -> Result<(), Fail> {
     let alloc = rt.alloc();
     let mut source = source_of(alloc, "1\n1 \n")?;
-    let mut out = SureSink::new(alloc, 100).map_err(|_| "memory")?;
-    let mut log = MemorySink::new(alloc, 6, 7, Vec::new(alloc)).map_err(|_| "memory")?;
+    let mut out = SureSink::new(alloc, 100)?;
+    let mut log = MemorySink::new(alloc, 6, 7, Vec::new(alloc))?;
     let ended = run_over(&rt, alloc, &["ranks", "1"], &mut source, &mut out, &mut log)?;
     assert!(rt; ended.status == Status::BadWord { line: 2 } && log.taken() == "line 2".as_bytes());
     Ok(())
 }
 
 // Whether a status has this exit code and this line.
-fn tells(alloc: Global, status: Status, code: u8, line: &str) -> Result<bool, &'static str> {
-    let mut log = MemorySink::new(alloc, 100, 7, Vec::new(alloc)).map_err(|_| "memory")?;
+fn tells(alloc: Global, status: Status, code: u8, line: &str) -> Result<bool, Fail> {
+    let mut log = MemorySink::new(alloc, 100, 7, Vec::new(alloc))?;
     tell(&mut log, status);
     Ok(status.code() == code && log.taken() == line.as_bytes())
 }
@@ -327,8 +327,8 @@ fn codes_and_lines(rt: HostRuntime) -> Result<(), Fail> {
 fn sure_devices(rt: HostRuntime) -> Result<(), Fail> {
     let alloc = rt.alloc();
     let mut source = SureSource::new(b"7\n7\n".to_vec(alloc)?);
-    let mut out = SureSink::new(alloc, 5).map_err(|_| "memory")?;
-    let mut log = SureSink::new(alloc, 5).map_err(|_| "memory")?;
+    let mut out = SureSink::new(alloc, 5)?;
+    let mut log = SureSink::new(alloc, 5)?;
     let ended = run_over(&rt, alloc, &["ranks", "1"], &mut source, &mut out, &mut log)?;
     assert!(rt;
         ended.status == Status::Ok && out.kept() == "0\n0\n7".as_bytes() && log.kept().is_empty()

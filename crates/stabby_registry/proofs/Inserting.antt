@@ -1,20 +1,24 @@
 -- What the last turn of an insert says of the whole call.
-use Rattle.std.proofs.Common.{◌≡◌, ℕ, ◌+◌, ◌-◌, ◌^◌, ◌<◌, ◌≤◌, List, [], ◌∷◌, ◌++◌, length, true, false, sym, refl, ap, ◌∙◌, subst, arith, inl, inr}
+use Rattle.std.proofs.Common.{◌≡◌, ℕ, ◌+◌, ◌-◌, ◌^◌, ◌<◌, ◌≤◌, List, [], ◌∷◌, ◌++◌, length, true, false, sym, refl, ap, ◌∙◌, subst, arith, inl, inr, append-nil, Result, Ok, Err, IfOk, IfErr}
+use mathlib.Core.List.{IsPrefix}
 use mathlib.Core.Bool.{false≢true}
 use Rattle.stabby_cell.specs.declared.chronicle.Chronicle.{Ghosts}
 use Rattle.stabby_cell.specs.declared.pass.Pass.{Pass}
 use Rattle.stabby_cell.specs.Recording.{ViewAdvances}
 use Rattle.stabby_cell.specs.Passes.{front_of, first_stamp_of, stamp_of, commits_of, opening_stamp_of, IsPassOf, IsWhole, Looked, Committed}
-use Rattle.stabby_cell.proofs.CallLemmas.{no_commit_looked}
+use Rattle.stabby_cell.proofs.CallLemmas.{no_commit_looked, looked_looked}
+use Rattle.stabby_cell.proofs.RecordLemmas.{prefix_trans}
 use Rattle.stabby_tables.specs.Tables.{Table}
 use Rattle.stabby_tables.specs.Lists.{has, with_table, place, IsDistinct}
 use Rattle.stabby_tables.proofs.Growing.{has_old, distinct_more}
 use Rattle.stabby_tables.proofs.Distinctness.{place_is}
 use Rattle.stabby_registry.specs.declared.registry.VtBtree.{VtBtree}
+use Rattle.stabby_registry.specs.declared.fault.RegistryFault.{RegistryFault}
+use Rattle.stabby_registry.specs.declared.fault.RegistryFault.TheVariants.{Full, RowFull, Memory}
 use Rattle.stabby_registry.specs.Catalog.{last_table}
-use Rattle.stabby_registry.specs.Inserts.{IsNumber, AddsTable, InsertsTable, IsFull}
+use Rattle.stabby_registry.specs.Inserts.{IsNumber, AddsTable, InsertsTable, IsFull, IsInsertFault}
 use Rattle.stabby_registry.proofs.Versions.{last-push, number_last, has_number}
-use Rattle.stabby_registry.proofs.PassLemmas.{then_committed, commits_after, whole_stays, whole_grows}
+use Rattle.stabby_registry.proofs.PassLemmas.{then_committed, then_nothing, commits_after, whole_stays, whole_grows}
 
 module _ {size : ℕ} {g : Ghosts (List Table) Table} where
   -- a pass of a registry begins at stamp 0
@@ -57,6 +61,44 @@ pub not_known : {g : Ghosts (List Table) Table} (p q : Pass (List Table) Table g
 not_known p q t looked absent known =
     let grows = ViewAdvances.front (Looked.advances looked) in
     false≢true (sym absent ∙ ap (λ f. has f t) (sym grows.1) ∙ has_old (front_of p) grows.0 t known)
+
+-- ---- an insert after steps that committed nothing
+module _ {g : Ghosts (List Table) Table} where
+  pub inserts_after : (p q r : Pass (List Table) Table g) (t : Table) (n : ℕ) → Looked p q → InsertsTable q r t n → InsertsTable p r t n
+  inserts_after p q r t n a (inl b) = inl (looked_looked p q r a b)
+  inserts_after p q r t n a (inr b) = inr (record {
+    before = AddsTable.before b;
+    grown = prefix_trans (front_of p) (front_of q) (AddsTable.before b) (ViewAdvances.front (Looked.advances a)) (AddsTable.grown b);
+    committed = then_committed p q r (AddsTable.before b) t (no_commit_looked p q a) (AddsTable.committed b);
+    absent = AddsTable.absent b;
+    number = AddsTable.number b;
+    commits = AddsTable.commits b ∙ ap (λ l. l ++ n ∷ []) (ViewAdvances.commits (Looked.advances a) ∙ ap (λ l. commits_of p ++ l) (Looked.no_commit a) ∙ append-nil (commits_of p));
+  })
+
+  pub refused_after : (p q r : Pass (List Table) Table g) (t : Table) (f : RegistryFault) → Looked p q → IsInsertFault q r t f → IsInsertFault p r t f
+  refused_after p q r t (Full front) a h = record {
+    absent = IsFull.absent h;
+    length_is = IsFull.length_is h;
+    last_stamp = IsFull.last_stamp h;
+    looked = looked_looked p q r a (IsFull.looked h);
+  }
+  refused_after p q r t (RowFull claimed needed) a h = absurd h
+  refused_after p q r t Memory a h = then_nothing p q r (no_commit_looked p q a) h
+
+module _ {g : Ghosts (List Table) Table} where
+  pub ok_after : (p q r : Pass (List Table) Table g) (t : Table) (result : Result ℕ RegistryFault) → Looked p q → IfOk result (InsertsTable q r t) → IfOk result (InsertsTable p r t)
+  ok_after p q r t (Ok n) a h = inserts_after p q r t n a h
+  ok_after p q r t (Err f) a h = h
+
+  pub err_after : (p q r : Pass (List Table) Table g) (t : Table) (result : Result ℕ RegistryFault) → Looked p q → IfErr result (IsInsertFault q r t) → IfErr result (IsInsertFault p r t)
+  err_after p q r t (Ok n) a h = h
+  err_after p q r t (Err f) a h = refused_after p q r t f a h
+
+  -- the version that was committed is the front
+  pub next_is_front : (q r : Pass (List Table) Table g) (t : Table) (known next : List Table) → known ≡ front_of q → next ≡ known ++ t ∷ [] → Committed q r (front_of q) (last_table next) → next ≡ front_of r
+  next_is_front q r t known next is longer committed =
+      let last : last_table next ≡ t = ap last_table longer ∙ last-push known t in
+      longer ∙ ap (λ (v : List Table). v ++ t ∷ []) is ∙ sym (Committed.front committed ∙ ap (λ (u : Table). front_of q ++ u ∷ []) last)
 
 -- ---- inserts by a whole pass
 module _ {size : ℕ} {g : Ghosts (List Table) Table} where

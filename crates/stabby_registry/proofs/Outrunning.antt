@@ -22,7 +22,7 @@ use Rattle.stabby_registry.specs.Visits.{IsTriedFault}
 use Rattle.stabby_registry.specs.Within.{ReadFirst, WasOutrun, IsWithinFault}
 use Rattle.stabby_registry.specs.Tries.{IsOwnFault}
 use Rattle.stabby_registry.proofs.Versions.{last-push}
-use Rattle.stabby_registry.proofs.PassLemmas.{prefix_length}
+use Rattle.stabby_registry.proofs.PassLemmas.{prefix_length, then_nothing}
 use Rattle.stabby_registry.proofs.Inserting.{first_zero, inserted_there}
 use Rattle.stabby_registry.proofs.Trying.{own_if_whole}
 
@@ -166,13 +166,6 @@ module _ {size : ℕ} {g : Ghosts (List Table) Table} where
       inserted_there registry p r q t n (front_of r) (front_of r ++ t ∷ []) zero own looked once (absent, refl, room) count refl (subst (Committed r q (front_of r)) (sym (last-push (front_of r) t)) committed)
 
 module _ {g : Ghosts (List Table) Table} where
-  then_nothing : (p q r : Pass (List Table) Table g) → AddedNoCommit p q → AddedNoCommit q r → AddedNoCommit p r
-  then_nothing p q r a b = record {
-    steps = AddedNoCommit.steps a ++ AddedNoCommit.steps b;
-    advances = advances_trans (view_of p) (view_of q) (view_of r) (AddedNoCommit.steps a) (AddedNoCommit.steps b) (AddedNoCommit.advances a) (AddedNoCommit.advances b);
-    no_commit = commits_in-append (AddedNoCommit.steps a) (AddedNoCommit.steps b) ∙ (ap (λ l. l ++ commits_in (AddedNoCommit.steps b)) (AddedNoCommit.no_commit a) ∙ AddedNoCommit.no_commit b);
-  }
-
   -- a try that was refused ends the call
   pub refused_at_last : (p r q : Pass (List Table) Table g) (t : Table) (tries : ℕ) (f : TryFault) → Looked p r → IsTriedFault r q t f → IsWithinFault p q t tries f
   refused_at_last p r q t tries Busy looked h = absurd h

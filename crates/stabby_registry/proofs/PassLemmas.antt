@@ -19,6 +19,13 @@ module _ {V E : Type 0} {g : Ghosts V E} where
   pub nothing_done : (p : Pass V E g) → AddedNoCommit p p
   nothing_done p = record { steps = []; advances = advances_none (view_of p); no_commit = refl }
 
+  pub then_nothing : (p q r : Pass V E g) → AddedNoCommit p q → AddedNoCommit q r → AddedNoCommit p r
+  then_nothing p q r a b = record {
+    steps = AddedNoCommit.steps a ++ AddedNoCommit.steps b;
+    advances = advances_trans (view_of p) (view_of q) (view_of r) (AddedNoCommit.steps a) (AddedNoCommit.steps b) (AddedNoCommit.advances a) (AddedNoCommit.advances b);
+    no_commit = no_commits (AddedNoCommit.steps a) (AddedNoCommit.steps b) (AddedNoCommit.no_commit a) (AddedNoCommit.no_commit b);
+  }
+
   pub then_looked : (p q r : Pass V E g) → AddedNoCommit p q → Looked q r → Looked p r
   then_looked p q r a b = record {
     steps = AddedNoCommit.steps a ++ Looked.steps b;

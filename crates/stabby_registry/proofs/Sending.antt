@@ -25,14 +25,14 @@ use Rattle.std.proofs.marker.PhantomData.TheSendSync as phantom
 use Rattle.stabby_tree.proofs.few.Few.TheSendSync as few
 use Rattle.stabby_tree.proofs.node.Item.TheSendSync as item
 use Rattle.stabby_tree.proofs.node.Node.TheLaws.TheKnot as knot
-use Rattle.stabby_registry.proofs.numbered.Numbered.TheSendSync as numbered
-use Rattle.stabby_registry.proofs.table.WordTable.TheSendSync as table
+use Rattle.stabby_word_table.proofs.numbered.Numbered.TheSendSync as numbered
+use Rattle.stabby_word_table.proofs.table.WordTable.TheSendSync as table
 use Rattle.stabby_registry.proofs.fault.RegistryFault.TheSendSync as fault
 use Rattle.stabby_cell.proofs.cell.TurnCell.TheSendSync as cell
 use Rattle.stabby_cell.proofs.pass.Pass.TheSendSync as pass
 use Rattle.stabby_registry.specs.contracts.catalog.Catalog as Catalog
 use Rattle.stabby_registry.specs.contracts.catalog.CatalogChronicle.TheImpl as chronicle
-use Rattle.stabby_registry.specs.contracts.table.WordTable as WordTable
+use Rattle.stabby_word_table.specs.contracts.table.WordTable as WordTable
 use Rattle.stabby_registry.specs.contracts.worker.Job as Job
 use Rattle.stabby_cell.specs.contracts.pass.Pass as Pass
 use Rattle.stabby_registry.specs.contracts.registry.VtBtree as VtBtree

@@ -9,7 +9,7 @@ use Rattle.stabby_cell.specs.contracts.pass.Pass.{the_row as pass_row}
 use Rattle.stabby_cell.specs.Turns.{lender_of}
 use Rattle.stabby_tables.specs.Tables.{Table}
 use Rattle.stabby_registry.specs.contracts.catalog.Catalog.{the_row as catalog_row}
-use Rattle.stabby_registry.specs.contracts.table.WordTable.{the_row as table_row}
+use Rattle.stabby_word_table.specs.contracts.table.WordTable.{the_row as table_row}
 use Rattle.stabby_registry.specs.declared.registry.VtBtree.{VtBtree}
 use Rattle.stabby_registry.specs.Passes.{IsPassOf, MissedTurn}
 

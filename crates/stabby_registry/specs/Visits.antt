@@ -14,8 +14,6 @@ use Rattle.stabby_registry.specs.declared.fault.TryFault.{TryFault}
 use Rattle.stabby_registry.specs.declared.fault.TryFault.TheVariants as once
 use Rattle.stabby_registry.specs.declared.insert_within.Tried.{Tried}
 use Rattle.stabby_registry.specs.declared.insert_within.Tried.TheVariants as tried
-use Rattle.stabby_registry.specs.declared.insert.Offered.{Offered}
-use Rattle.stabby_registry.specs.declared.insert.Offered.TheVariants as offered
 
 -- what the version has of the table
 abbrev pub HasFound : {size : ℕ} → List Table → Table → Found size → Type 0
@@ -23,15 +21,10 @@ HasFound front t (Known n) = IsNumber front t n
 HasFound front t (Absent version) = (has front t ≡ false) × (version ≡ front) × (length front < 2 ^ 63 - 1)
 HasFound front t Full = (has front t ≡ false) × (2 ^ 63 - 1 ≤ length front)
 
--- the version was committed on the front of p, or another came between
-abbrev pub HasOffered : {g : Ghosts (List Table) Table} → Pass (List Table) Table g → Pass (List Table) Table g → List Table → Offered → Type 0
-HasOffered p q next offered.Committed = Committed p q (front_of p) (last_table next)
-HasOffered p q next offered.Moved = Looked p q
-
--- the version was committed on the front of p, or another came between, and the version now has this of the table
-abbrev pub HasOfferedOrFound : {size : ℕ} {g : Ghosts (List Table) Table} → Pass (List Table) Table g → Pass (List Table) Table g → List Table → Table → Option (Found size) → Type 0
-HasOfferedOrFound p q next t None = Committed p q (front_of p) (last_table next)
-HasOfferedOrFound p q next t (Some found) = Visited p q × (stamp_of p < stamp_of q) × IsDistinct (front_of q) × HasFound (front_of q) t found
+-- the version was committed on the front of p, or another came between, of which this is a copy
+abbrev pub HasOffered : {g : Ghosts (List Table) Table} → Pass (List Table) Table g → Pass (List Table) Table g → List Table → Option (List Table) → Type 0
+HasOffered p q next None = Committed p q (front_of p) (last_table next)
+HasOffered p q next (Some newer) = Visited p q × (stamp_of p < stamp_of q) × IsDistinct (front_of q) × (newer ≡ front_of q)
 
 -- the table was committed on the front of p, or another came between, and the version now has the table or lacks it
 abbrev pub HasTriedOn : {size : ℕ} {g : Ghosts (List Table) Table} → Pass (List Table) Table g → Pass (List Table) Table g → Table → Tried size → Type 0

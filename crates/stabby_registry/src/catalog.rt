@@ -5,24 +5,23 @@ ghost use Rattle.stabby_tables.specs.Lists.{has, place, ordered, IsDistinct};
 ghost use Rattle.stabby_tree.specs.Sets.{IsLimit};
 ghost use Rattle.stabby_registry.specs.Interned.{CanRank};
 
-use crate::numbered::Numbered;
-use crate::table::WordTable;
 use stabby_cell::Chronicle;
 use stabby_layout::AllocationError;
 use stabby_tree::{ArcBTreeSet, Probe};
+use stabby_word_table::{Numbered, WordTable};
 use std::alloc::Global;
 use std::marker::Model;
 use std::sync::Arc;
 
 // The length of a list that can't be counted further.
-const LAST_STAMP: u64 = (1 << 63) - 1;
+pub(crate) const LAST_STAMP: u64 = (1 << 63) - 1;
 
 // What a version has of a table.
 #[derive(Drop)]
 pub(crate) enum Found<const SIZE: usize> {
     // Its number.
     Known(u64),
-    // It is absent: a copy of the version.
+    // It is absent: the version.
     Absent(Catalog<SIZE>),
     // It is absent, and the registry is full.
     Full,
@@ -157,18 +156,17 @@ impl<const SIZE: usize> Catalog<SIZE> {
         })
     }
 
-    // Looks a table up, and copies the version where it is absent.
-    pub(crate) fn find(&self, table: &WordTable) -> Result<Found<SIZE>, AllocationError>
-        ensures found { IfOk result (HasFound self.now table.now) }
-        ensures memory { IfErr result (λ error. error ≡ AllocationError.Memory) }
+    // Looks a table up, and gives the version back where it is absent.
+    pub(crate) fn find(self, table: &WordTable) -> Found<SIZE>
+        ensures { HasFound self.entry table.now result }
     {
         if let Some(number) = self.number_of(table) {
-            return Ok(Found::Known(number));
+            return Found::Known(number);
         }
         if self.len() == LAST_STAMP {
-            return Ok(Found::Full);
+            return Found::Full;
         }
-        Ok(Found::Absent(self.duplicate()?))
+        Found::Absent(self)
     }
 
     // The list with a copy of an absent table at its end.

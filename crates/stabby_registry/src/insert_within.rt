@@ -8,8 +8,7 @@ ghost use Rattle.stabby_cell.specs.Passes.{front_of, Looked, IsWhole};
 use crate::catalog::{Catalog, Found};
 use crate::fault::TryFault;
 use crate::registry::{TreePass, VtBtree};
-use crate::table::WordTable;
-use stabby_layout::AllocationError;
+use stabby_word_table::WordTable;
 use std::alloc::Global;
 use std::sync::Wait;
 
@@ -29,8 +28,7 @@ impl<const SIZE: usize> VtBtree<SIZE> {
     ghost use Rattle.stabby_registry.specs.Inserts.{IsNumber, InsertsTable};
     ghost use Rattle.stabby_registry.specs.Within.{IsWithinFault};
     ghost use Rattle.stabby_registry.specs.Tries.{IsOwnFault};
-    ghost use Rattle.stabby_registry.specs.Visits.{HasOfferedOrFound, HasTriedOn, IsTriedFault};
-    ghost use Rattle.stabby_registry.specs.Catalog.{AppendsTable};
+    ghost use Rattle.stabby_registry.specs.Visits.{HasTriedOn, IsTriedFault};
 
     /// `VTableRegistry::insert` with at most `tries` versions built.
     ///
@@ -99,44 +97,13 @@ impl<const SIZE: usize> VtBtree<SIZE> {
     {
         let number = version.len();
         let next = version.with(alloc, table)?;
-        match self.offer_or_find(rt, pass, next, table)? {
-            None => Ok(Tried::Added(number)),
-            Some(Found::Known(number)) => Ok(Tried::Known(number)),
-            Some(Found::Absent(newer)) => Ok(Tried::Outrun(newer)),
-            Some(Found::Full) => Err(TryFault::Full { front: pass.seen() }),
-        }
-    }
-
-    // Commits the version that was built on the front of the pass, and answers `None`. Where another came between, answers
-    // what the version now has of the table, which it looks up under the same turn.
-    fn offer_or_find<H: Wait>(
-        &self,
-        rt: &H,
-        pass: &mut TreePass<SIZE>,
-        next: Catalog<SIZE>,
-        table: &WordTable,
-    ) -> Result<Option<Found<SIZE>>, AllocationError>
-        requires own { IsPassOf self.now pass.old }
-        requires follows { (appended : List ℕ) × AppendsTable (front_of pass.old) appended next }
-        requires room { length (front_of pass.old) < 2 ^ 63 - 1 }
-        ensures pass { IsPassOf self.now pass.new }
-        ensures fared { IfOk result (HasOfferedOrFound pass.old pass.new next.entry table.now) }
-        ensures looked { OnErr result (Looked pass.old pass.new) }
-        ensures memory { IfErr result (λ error. error ≡ AllocationError.Memory) }
-    {
-        let base = pass.seen();
-        let turn = self.cell.take(rt, pass);
-        if turn.stamp() != base {
-            let found = turn.version().find(table);
-            turn.release();
-            match found {
-                Ok(found) => return Ok(Some(found)),
-                Err(error) => return Err(error),
-            }
-        }
-        match turn.commit(next) {
-            Ok(_) => Ok(None),
-            Err(_) => unreachable!(),
+        let Some(newer) = self.offer(rt, pass, next)? else {
+            return Ok(Tried::Added(number));
+        };
+        match newer.find(table) {
+            Found::Known(number) => Ok(Tried::Known(number)),
+            Found::Absent(newer) => Ok(Tried::Outrun(newer)),
+            Found::Full => Err(TryFault::Full { front: pass.seen() }),
         }
     }
 }

@@ -8,11 +8,10 @@ ghost use Rattle.stabby_registry.specs.Interned.{CanRank};
 
 use crate::fault::RegistryFault;
 use crate::gate::Gate;
-use crate::numbered::Numbered;
 use crate::registry::{TreePass, VtBtree};
-use crate::table::WordTable;
 use crate::worker::number_tables;
 use stabby_layout::AllocationError;
+use stabby_word_table::{Numbered, WordTable};
 use std::alloc::Global;
 use std::marker::{Model, Sync};
 use std::sync::Wait;

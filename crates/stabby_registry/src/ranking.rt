@@ -4,8 +4,8 @@ ghost use Rattle.std.specs.Prelude.{◌≡◌, ◌<◌, ℕ, [], length, map, sl
 ghost use Rattle.stabby_tables.specs.Lists.{entry_place};
 ghost use Rattle.stabby_registry.specs.Interned.{CanRank};
 
-use crate::numbered::Numbered;
 use stabby_layout::AllocationError;
+use stabby_word_table::Numbered;
 use std::alloc::Global;
 
 /// For each number the place of its entry: the rank of its table, where the entries are in the order of tables.

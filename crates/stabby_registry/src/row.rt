@@ -8,11 +8,10 @@ ghost use Rattle.stabby_registry.specs.Rows.{words_of, IsPassOf, IsOpening, Spli
 ghost use Rattle.stabby_registry.specs.Rows.{MadeNoClaim, ClaimsAtMostOnce, IsRowFull, WalksOnly, InsertsInRow, IsRowFault};
 
 use crate::fault::RegistryFault;
-use crate::lists_words::ListsWords;
-use crate::table::WordTable;
 use crate::vtable_registry::VTableRegistry;
 use stabby_layout::AllocationError;
 use stabby_row::{RowFull, RowPass, WordRow};
+use stabby_word_table::{ListsWords, WordTable};
 use std::alloc::Global;
 use std::sync::Wait;
 
@@ -169,17 +168,7 @@ impl VTableRegistry for VtVec {
         alloc: Global,
         pass: &mut RowPass,
         vtable: &Vt,
-    ) -> Result<u64, RegistryFault>
-        requires { IsPassOf self.now pass.old }
-        ensures pass { IsPassOf self.now pass.new }
-        ensures front { IsPrefix (front_of pass.old) (front_of pass.new) }
-        ensures number { IfOk result (λ n. IsNumber (front_of pass.new) (Vt.listed_words vtable.now) n) }
-        ensures inserts { IfOk result (InsertsInRow pass.old pass.new (Vt.listed_words vtable.now)) }
-        ensures distinct { OnOk result (IsDistinct (front_of pass.new)) }
-        ensures known { has (front_of pass.old) (Vt.listed_words vtable.now) ≡ true
-            → OnOk result (WalksOnly pass.old pass.new) }
-        ensures refused { IfErr result (IsRowFault pass.old pass.new (Vt.listed_words vtable.now)) }
-    {
+    ) -> Result<u64, RegistryFault> {
         let table = vtable.list_words(alloc)?;
         Ok(self.insert_row(pass, &table)?)
     }

@@ -5,12 +5,11 @@ ghost use Rattle.stabby_tables.specs.Lists.{IsDistinct, ordered};
 ghost use Rattle.stabby_cell.specs.Passes.{front_of, Looked};
 
 use crate::catalog::Catalog;
-use crate::numbered::Numbered;
 use crate::registry::{TreePass, VtBtree};
-use crate::table::WordTable;
 use stabby_cell::{Busy, CellFault};
 use stabby_layout::AllocationError;
 use stabby_tree::Probe;
+use stabby_word_table::{Numbered, WordTable};
 use std::alloc::Global;
 use std::sync::{Arc, Wait};
 

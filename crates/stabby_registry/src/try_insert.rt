@@ -8,8 +8,8 @@ ghost use Rattle.stabby_cell.specs.Passes.{front_of, Looked, IsWhole, Committed}
 use crate::catalog::{Catalog, Found};
 use crate::fault::TryFault;
 use crate::registry::{TreePass, VtBtree};
-use crate::table::WordTable;
 use stabby_cell::Busy;
+use stabby_word_table::WordTable;
 use std::alloc::Global;
 
 impl<const SIZE: usize> VtBtree<SIZE> {
@@ -55,7 +55,7 @@ impl<const SIZE: usize> VtBtree<SIZE> {
         }
     }
 
-    // Looks a table up by one try at the turn, and copies the version where the table is absent.
+    // Looks a table up in a copy of the version, which is made by one try at the turn.
     fn try_find(
         &self,
         pass: &mut TreePass<SIZE>,
@@ -71,10 +71,10 @@ impl<const SIZE: usize> VtBtree<SIZE> {
         match pass.try_take(&self.cell) {
             Err(Busy) => Err(TryFault::Busy),
             Ok(turn) => {
-                let found = turn.version().find(table);
+                let version = turn.version().duplicate();
                 turn.release();
-                match found {
-                    Ok(found) => Ok(found),
+                match version {
+                    Ok(version) => Ok(version.find(table)),
                     Err(_) => Err(TryFault::Memory),
                 }
             }

@@ -10,9 +10,8 @@ ghost use Rattle.stabby_registry.specs.declared.fault.RegistryFault.{RegistryFau
 
 use crate::fault::RegistryFault;
 use crate::gate::OpenGate;
-use crate::lists_words::ListsWords;
 use crate::registry::{TreePass, VtBtree};
-use crate::table::WordTable;
+use stabby_word_table::{ListsWords, WordTable};
 use std::alloc::Global;
 use std::sync::Wait;
 
@@ -100,16 +99,7 @@ impl<const SIZE: usize> VTableRegistry for VtBtree<SIZE> {
         alloc: Global,
         pass: &mut TreePass<SIZE>,
         table: &WordTable,
-    ) -> Result<u64, RegistryFault>
-        requires { IsPassOf self.now pass.old }
-        ensures pass { IsPassOf self.now pass.new }
-        ensures front { IsPrefix (front_of pass.old) (front_of pass.new) }
-        ensures number { IfOk result (λ n. IsNumber (front_of pass.new) table.now n) }
-        ensures inserts { IfOk result (InsertsTable pass.old pass.new table.now) }
-        ensures known { has (front_of pass.old) table.now ≡ true → OnOk result (Looked pass.old pass.new) }
-        ensures distinct { OnOk result (IsDistinct (front_of pass.new)) }
-        ensures refused { IfErr result (IsInsertFault pass.old pass.new table.now) }
-    {
+    ) -> Result<u64, RegistryFault> {
         self.insert_gated(rt, alloc, pass, table, &OpenGate, 0, 0)
     }
 
@@ -119,17 +109,7 @@ impl<const SIZE: usize> VTableRegistry for VtBtree<SIZE> {
         alloc: Global,
         pass: &mut TreePass<SIZE>,
         vtable: &Vt,
-    ) -> Result<u64, RegistryFault>
-        requires { IsPassOf self.now pass.old }
-        ensures pass { IsPassOf self.now pass.new }
-        ensures front { IsPrefix (front_of pass.old) (front_of pass.new) }
-        ensures number { IfOk result (λ n. IsNumber (front_of pass.new) (Vt.listed_words vtable.now) n) }
-        ensures inserts { IfOk result (InsertsTable pass.old pass.new (Vt.listed_words vtable.now)) }
-        ensures known { has (front_of pass.old) (Vt.listed_words vtable.now) ≡ true
-            → OnOk result (Looked pass.old pass.new) }
-        ensures distinct { OnOk result (IsDistinct (front_of pass.new)) }
-        ensures refused { IfErr result (IsInsertFault pass.old pass.new (Vt.listed_words vtable.now)) }
-    {
+    ) -> Result<u64, RegistryFault> {
         let table = vtable.list_words(alloc)?;
         self.insert_gated(rt, alloc, pass, &table, &OpenGate, 0, 0)
     }

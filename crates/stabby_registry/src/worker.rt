@@ -11,7 +11,7 @@ use crate::catalog::Catalog;
 use crate::fault::RegistryFault;
 use crate::gate::Gate;
 use crate::registry::{TreePass, VtBtree};
-use crate::table::WordTable;
+use stabby_word_table::WordTable;
 use std::alloc::Global;
 use std::marker::Sync;
 use std::sync::Wait;
@@ -77,32 +77,27 @@ fn number_share<G: Gate, H: Wait>(
     let Ok(mut numbers) = Vec::with_capacity(alloc, tables.len()) else {
         return Err(RegistryFault::Memory);
     };
-    // The version that was read last: its tables need no turn.
+    // The newest version that this worker read or made: its tables need no step on the registry.
     let mut known = Catalog::new(alloc);
-    let mut missed = 0u64;
     for (at, table) in tables.iter().enumerate() {
         let place = (first + at) as u64;
+        gate.before(worker as u64, place);
         if let Some(number) = known.number_of(table) {
-            gate.before(worker as u64, place);
             gate.after(worker as u64, place, number);
             numbers.push_reserved(number);
             continue;
         }
-        let added = pass.added();
-        let number = registry.insert_gated(rt, alloc, pass, table, gate, worker as u64, place)?;
+        let number = registry.insert_absent(
+            rt,
+            alloc,
+            pass,
+            table,
+            gate,
+            worker as u64,
+            place,
+            &mut known,
+        )?;
         numbers.push_reserved(number);
-        // Where the registry had the table, it has more than `known`: after so many such tables a copy is worth its price.
-        if pass.added() == added {
-            missed = missed.saturating_add(1);
-        }
-        if missed <= known.len() / 4 {
-            continue;
-        }
-        let Ok(version) = registry.try_snapshot(pass) else {
-            continue;
-        };
-        known = version;
-        missed = 0;
     }
     Ok(numbers)
 }
@@ -164,7 +159,7 @@ fn run_jobs<G: Gate, H: Threads + Wait + Sync>(
     jobs
 }
 
-// The numbers of both, one list behind the other, or the first fault.
+// The numbers of both, one list behind the other, or the first fault. Behind an empty list the other is taken as it is.
 fn together(
     before: Result<Vec<u64>, RegistryFault>,
     after: Result<Vec<u64>, RegistryFault>,
@@ -173,6 +168,9 @@ fn together(
 {
     let mut all = before?;
     let more = after?;
+    if all.is_empty() {
+        return Ok(more);
+    }
     match all.extend_from_slice(&more) {
         Ok(()) => Ok(all),
         Err(_) => Err(RegistryFault::Memory),
@@ -189,20 +187,18 @@ fn number_shares<G: Gate, H: Threads + Wait + Sync>(
     tables: &[WordTable],
     size: usize,
     gate: &G,
-    numbers: Vec<u64>,
     jobs: Vec<Job>,
 ) -> Result<Vec<u64>, RegistryFault>
     requires own { IsPassOf registry.now pass.old }
     requires some { 0 < length jobs.items }
     requires ready { All (IsReady registry.now) jobs.items }
-    requires empty { numbers.items ≡ [] }
     ensures pass { IsPassOf registry.now pass.new }
     ensures weight { weight_of pass.new ≡ weight_of pass.old + length jobs.items }
     ensures goes_on { GoesOn pass.old pass.new }
     ensures joined { AreJoined (front_of pass.old) (commits_of pass.old) pass.new tables.now size (length jobs.items) }
     ensures outcome { HaveOutcome (commits_of pass.old) pass.new tables.now size (length jobs.items) result }
 {
-    let mut numbered = Ok(numbers);
+    let mut numbered = Ok(Vec::new(alloc));
     for job in run_jobs(rt, alloc, registry, tables, size, gate, jobs) {
         let Job {
             pass: part,
@@ -237,13 +233,10 @@ pub(crate) fn number_tables<G: Gate, H: Threads + Wait + Sync>(
     ensures outcome { HaveOutcome (commits_of pass.old) pass.new tables.now
         (share_size (length tables.now) workers) workers result }
 {
-    let Ok(numbers) = Vec::with_capacity(alloc, tables.len()) else {
-        return Err(RegistryFault::Memory);
-    };
     let Ok(jobs) = Vec::with_capacity(alloc, workers) else {
         return Err(RegistryFault::Memory);
     };
     let jobs = hand_out(alloc, registry, pass, jobs, workers);
     let size = (tables.len() + (workers - 1)) / workers;
-    number_shares(rt, alloc, registry, pass, tables, size, gate, numbers, jobs)
+    number_shares(rt, alloc, registry, pass, tables, size, gate, jobs)
 }

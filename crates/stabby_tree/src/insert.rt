@@ -1,18 +1,18 @@
-//! Insertion below a link: the new path is built beside the old one.
+//! Insertion below a link. A node that no other set has is changed where it stands, and another one is copied first.
 
 ghost use Rattle.std.specs.Prelude.{◌≡◌, ℕ, ◌+◌, ◌*◌, ◌/◌, ◌-◌, ◌<◌, ◌≤◌, List, [], ◌++◌, ◌∷◌, Some, true, false, length, take, drop, slice_get, slice_index_or, vec_len, vec_capacity, IfOk, MatchResult};
 ghost use Rattle.std.specs.declared.cmp.Ordering.TheVariants.{Less, Equal, Greater};
 ghost use Rattle.stabby_tree.specs.Order.{AllByRecursion, IsRising};
 ghost use Rattle.stabby_tree.specs.Few.{few_items, IsFor};
 ghost use Rattle.stabby_tree.specs.Shape.{flat, below, depth_of, IsHeavy, AreHeavy, KeyAt, Copies};
-ghost use Rattle.stabby_tree.specs.Insert.{LinkTook, EntriesTook, EntriesKept};
+ghost use Rattle.stabby_tree.specs.Insert.{LinkTook, LinkKept, NodeTook, NodeKept, EntriesTook, EntriesKept};
 
 use crate::copier::{Copier, copied};
 use crate::few::{Few, empty, relink, revalue, split, widen};
 use crate::keyed::Keyed;
 use crate::node::{Item, Limit, Node};
+use crate::spot::place;
 use std::alloc::{AllocError, Allocator};
-use std::cmp::Ordering;
 use std::marker::PhantomData;
 use std::mem;
 use std::sync::Arc;
@@ -20,10 +20,10 @@ use std::sync::Arc;
 /// What an insert below a link comes to.
 #[derive(Drop)]
 pub enum Up<N, T, A: Allocator> {
-    /// The new link. What stood in the value's place comes back.
-    Same(Option<Arc<N, A>>, Option<T>),
-    /// The links to the values below this one and above it.
-    Split(Option<Arc<N, A>>, T, Option<Arc<N, A>>),
+    /// The link has the value. What stood in the value's place comes back.
+    Same(Option<T>),
+    /// The link keeps the values below this one. The values above it are in a link of their own.
+    Split(T, Option<Arc<N, A>>),
 }
 
 /// A node with no entry.
@@ -165,36 +165,40 @@ fn copy_node<T: Drop, A: Allocator + Clone + Drop, P: Limit, C: Copier<T>>(
     Ok(copy)
 }
 
-/// How many entries are less than the key, and whether the next one has it.
-#[inline(always)]
-fn place<T: Keyed, A: Allocator, P: Limit>(
-    entries: &Few<Item<Node<T, A, P>, T, A>, A>,
-    key: &T::Key,
-) -> (usize, bool)
-    requires rising { IsRising T.key_of T.Key.cmp (flat (few_items entries.now) None) }
-    ensures within { result.0 ≤ length (few_items entries.now) }
-    ensures less { AllByRecursion (λ y. T.Key.cmp (T.key_of y) key.now ≡ Less) (flat (take result.0 (few_items entries.now)) None) }
-    ensures hit { result.1 ≡ true → (result.0 < length (few_items entries.now)) × KeyAt T.key_of T.Key.cmp (few_items entries.now) result.0 key.now Equal }
-    ensures miss { result.1 ≡ false → result.0 < length (few_items entries.now) → KeyAt T.key_of T.Key.cmp (few_items entries.now) result.0 key.now Greater }
-{
-    for at in 0..entries.len() {
-        match entries.at(at).value.key().cmp(key) {
-            Ordering::Less => {}
-            Ordering::Equal => return (at, true),
-            Ordering::Greater => return (at, false),
-        }
+/// Whether a link has no place for one more entry.
+pub(crate) fn is_full<T, A: Allocator, P: Limit>(link: &Option<Arc<Node<T, A, P>, A>>) -> bool {
+    match link {
+        None => true,
+        Some(node) => node.entries.len() + 1 >= P::limit(),
     }
-    (entries.len(), false)
 }
 
-/// Puts the value into entries that are no one else's.
+/// Whether the link before this place is full, so that its node may split.
+#[inline(always)]
+pub(crate) fn is_full_at<T, A: Allocator, P: Limit>(
+    entries: &Few<Item<Node<T, A, P>, T, A>, A>,
+    greater: &Option<Arc<Node<T, A, P>, A>>,
+    at: usize,
+) -> bool {
+    if at < entries.len() {
+        is_full(&entries.at(at).smaller)
+    } else {
+        is_full(greater)
+    }
+}
+
+/// Puts the value into entries that are no one else's, at the place that `place` has found. They get one more only where
+/// the caller absorbs it.
 #[cycle(insert)]
 fn insert_between<T: Keyed + Drop, A: Allocator + Clone + Drop, P: Limit, C: Copier<T>>(
     entries: &mut Few<Item<Node<T, A, P>, T, A>, A>,
     greater: &mut Option<Arc<Node<T, A, P>, A>>,
+    at: usize,
+    hit: bool,
     alloc: &A,
     copier: &mut C,
     value: T,
+    absorbs: bool,
 ) -> Result<Option<T>, T>
     requires odd { P.limit ≡ 2 * (P.limit / 2) + 1 }
     requires rising { IsRising T.key_of T.Key.cmp (flat (few_items entries.old) greater.old) }
@@ -202,29 +206,36 @@ fn insert_between<T: Keyed + Drop, A: Allocator + Clone + Drop, P: Limit, C: Cop
     requires last { IsHeavy (P.limit / 2) (depth_of greater.old) greater.old }
     requires room { length (few_items entries.old) < P.limit }
     requires place { IsFor P.limit entries.old }
+    requires within { at ≤ length (few_items entries.old) }
+    requires less { AllByRecursion (λ y. T.Key.cmp (T.key_of y) (T.key_of value) ≡ Less) (flat (take at (few_items entries.old)) None) }
+    requires hit { hit ≡ true → (at < length (few_items entries.old)) × KeyAt T.key_of T.Key.cmp (few_items entries.old) at (T.key_of value) Equal }
+    requires miss { hit ≡ false → at < length (few_items entries.old) → KeyAt T.key_of T.Key.cmp (few_items entries.old) at (T.key_of value) Greater }
     requires exact { (x y : T) → C.is_copy x y → y ≡ x }
     ensures not_less { C.copies copier.old ≤ C.copies copier.new }
     ensures count { C.copies copier.new ≤ C.copies copier.old + (P.limit - 1) * depth_of greater.old }
     ensures place { IsFor P.limit entries.new }
     ensures value { MatchResult result
-        (EntriesTook T.key_of T.Key.cmp (P.limit / 2) value (few_items entries.old) (few_items entries.new) greater.old greater.new)
+        (EntriesTook T.key_of T.Key.cmp (P.limit / 2) value (few_items entries.old) (few_items entries.new) greater.old greater.new absorbs)
         (EntriesKept T.key_of T.Key.cmp (P.limit / 2) value (few_items entries.old) (few_items entries.new) greater.old greater.new) }
 {
-    let (at, hit) = place(entries, value.key());
     if hit {
         return Ok(Some(revalue::<Node<T, A, P>, T, A, P>(entries, at, value)));
     }
     if at < entries.len() {
-        match insert_link(&entries.at(at).smaller, alloc, copier, value, true) {
-            Err(refused) => Err(refused),
-            Ok(Up::Same(link, old)) => {
+        let mut link = relink::<Node<T, A, P>, T, A, P>(entries, at, None);
+        match insert_link(&mut link, alloc, copier, value, absorbs) {
+            Err(refused) => {
+                relink::<Node<T, A, P>, T, A, P>(entries, at, link);
+                Err(refused)
+            }
+            Ok(Up::Same(old)) => {
                 relink::<Node<T, A, P>, T, A, P>(entries, at, link);
                 Ok(old)
             }
-            Ok(Up::Split(left, middle, right)) => {
+            Ok(Up::Split(middle, right)) => {
                 relink::<Node<T, A, P>, T, A, P>(entries, at, right);
                 let item = Item {
-                    smaller: left,
+                    smaller: link,
                     value: middle,
                 };
                 widen::<Item<Node<T, A, P>, T, A>, A, P>(entries, at, item);
@@ -232,14 +243,11 @@ fn insert_between<T: Keyed + Drop, A: Allocator + Clone + Drop, P: Limit, C: Cop
             }
         }
     } else {
-        match insert_link(&*greater, alloc, copier, value, true) {
+        match insert_link(greater, alloc, copier, value, absorbs) {
             Err(refused) => Err(refused),
-            Ok(Up::Same(link, old)) => {
-                *greater = link;
-                Ok(old)
-            }
-            Ok(Up::Split(left, middle, right)) => {
-                *greater = right;
+            Ok(Up::Same(old)) => Ok(old),
+            Ok(Up::Split(middle, right)) => {
+                let left = mem::replace(greater, right);
                 let item = Item {
                     smaller: left,
                     value: middle,
@@ -251,44 +259,55 @@ fn insert_between<T: Keyed + Drop, A: Allocator + Clone + Drop, P: Limit, C: Cop
     }
 }
 
-/// Links to the values below this one with the value. The nodes below it stay. The answer is in two links only where the
-/// caller absorbs them.
+/// Puts the value into a node that is no one else's. The half that a split needs is made before the node is changed, and
+/// only where a split may come.
 #[cycle(insert)]
-pub(crate) fn insert_link<T: Keyed + Drop, A: Allocator + Clone + Drop, P: Limit, C: Copier<T>>(
-    link: &Option<Arc<Node<T, A, P>, A>>,
+fn insert_node<T: Keyed + Drop, A: Allocator + Clone + Drop, P: Limit, C: Copier<T>>(
+    node: &mut Node<T, A, P>,
     alloc: &A,
     copier: &mut C,
     value: T,
     absorbs: bool,
 ) -> Result<Up<Node<T, A, P>, T, A>, T>
     requires odd { P.limit ≡ 2 * (P.limit / 2) + 1 }
-    requires rising { IsRising T.key_of T.Key.cmp (below link.now) }
+    requires rising { IsRising T.key_of T.Key.cmp node.old.0 }
     requires exact { (x y : T) → C.is_copy x y → y ≡ x }
     ensures not_less { C.copies copier.old ≤ C.copies copier.new }
-    ensures count { C.copies copier.new ≤ C.copies copier.old + (P.limit - 1) * depth_of link.now }
-    ensures value { MatchResult result (LinkTook T.key_of T.Key.cmp (P.limit / 2) value link.now absorbs) (λ refused. refused ≡ value) }
+    ensures count { C.copies copier.new ≤ C.copies copier.old + (P.limit - 1) * node.old.1 }
+    ensures value { MatchResult result
+        (NodeTook T.key_of T.Key.cmp (P.limit / 2) value node.old node.new absorbs)
+        (NodeKept value node.old node.new) }
 {
-    let Some(shared) = link else {
-        return if absorbs {
-            Ok(Up::Split(None, value, None))
-        } else {
-            Err(value)
-        };
-    };
-    let Ok(mut copy) = copy_node(&**shared, alloc, copier) else {
-        return Err(value);
-    };
-    let Some(node) = Arc::get_mut(&mut copy) else {
-        return Err(value);
-    };
+    let (at, hit) = place(&node.entries, value.key());
     if node.entries.len() + 1 < P::limit() {
-        return match insert_between(&mut node.entries, &mut node.greater, alloc, copier, value) {
-            Ok(old) => Ok(Up::Same(Some(copy), old)),
+        return match insert_between(
+            &mut node.entries,
+            &mut node.greater,
+            at,
+            hit,
+            alloc,
+            copier,
+            value,
+            true,
+        ) {
+            Ok(old) => Ok(Up::Same(old)),
             Err(refused) => Err(refused),
         };
     }
-    if !absorbs {
-        return Err(value);
+    if !absorbs || hit || !is_full_at(&node.entries, &node.greater, at) {
+        return match insert_between(
+            &mut node.entries,
+            &mut node.greater,
+            at,
+            hit,
+            alloc,
+            copier,
+            value,
+            false,
+        ) {
+            Ok(old) => Ok(Up::Same(old)),
+            Err(refused) => Err(refused),
+        };
     }
     let Ok(mut fresh) = blank::<T, A, P>(alloc) else {
         return Err(value);
@@ -296,19 +315,73 @@ pub(crate) fn insert_link<T: Keyed + Drop, A: Allocator + Clone + Drop, P: Limit
     let Some(room) = Arc::get_mut(&mut fresh) else {
         return Err(value);
     };
-    match insert_between(&mut node.entries, &mut node.greater, alloc, copier, value) {
+    match insert_between(
+        &mut node.entries,
+        &mut node.greater,
+        at,
+        hit,
+        alloc,
+        copier,
+        value,
+        true,
+    ) {
         Err(refused) => Err(refused),
         Ok(old) => {
             if node.entries.len() < P::limit() {
-                return Ok(Up::Same(Some(copy), old));
+                return Ok(Up::Same(old));
             }
+            mem::drop(old);
             let middle = split::<Node<T, A, P>, T, A, P>(
                 &mut node.entries,
                 &mut node.greater,
                 &mut room.entries,
                 &mut room.greater,
             );
-            Ok(Up::Split(Some(copy), middle, Some(fresh)))
+            Ok(Up::Split(middle, Some(fresh)))
+        }
+    }
+}
+
+/// Puts the value below the link. The answer is in two links only where the caller absorbs the second. A refusal leaves the
+/// values below the link.
+#[cycle(insert)]
+pub(crate) fn insert_link<T: Keyed + Drop, A: Allocator + Clone + Drop, P: Limit, C: Copier<T>>(
+    link: &mut Option<Arc<Node<T, A, P>, A>>,
+    alloc: &A,
+    copier: &mut C,
+    value: T,
+    absorbs: bool,
+) -> Result<Up<Node<T, A, P>, T, A>, T>
+    requires odd { P.limit ≡ 2 * (P.limit / 2) + 1 }
+    requires rising { IsRising T.key_of T.Key.cmp (below link.old) }
+    requires exact { (x y : T) → C.is_copy x y → y ≡ x }
+    ensures not_less { C.copies copier.old ≤ C.copies copier.new }
+    ensures count { C.copies copier.new ≤ C.copies copier.old + (P.limit - 1) * depth_of link.old }
+    ensures value { MatchResult result
+        (LinkTook T.key_of T.Key.cmp (P.limit / 2) value link.old link.new absorbs)
+        (LinkKept value link.old link.new) }
+{
+    let Some(shared) = link else {
+        return if absorbs {
+            Ok(Up::Split(value, None))
+        } else {
+            Err(value)
+        };
+    };
+    if let Some(node) = Arc::get_mut(shared) {
+        return insert_node(node, alloc, copier, value, absorbs);
+    }
+    let Ok(mut copy) = copy_node(&**shared, alloc, copier) else {
+        return Err(value);
+    };
+    let Some(node) = Arc::get_mut(&mut copy) else {
+        return Err(value);
+    };
+    match insert_node(node, alloc, copier, value, absorbs) {
+        Err(refused) => Err(refused),
+        Ok(up) => {
+            *shared = copy;
+            Ok(up)
         }
     }
 }

@@ -16,6 +16,7 @@ mod probe;
 mod root;
 mod search;
 mod set;
+mod spot;
 mod walk;
 
 pub use copier::{CloneCopier, Copier};

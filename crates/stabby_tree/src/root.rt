@@ -4,13 +4,15 @@ ghost use Rattle.std.specs.Prelude.{◌≡◌, ℕ, ◌+◌, ◌*◌, ◌/◌, �
 ghost use Rattle.stabby_tree.specs.Sets.{IsRising, IsHeightOf};
 ghost use Rattle.stabby_tree.specs.Few.{few_items, IsFor};
 ghost use Rattle.stabby_tree.specs.Shape.{below, depth_of};
-ghost use Rattle.stabby_tree.specs.Root.{RootTook, RootKept};
+ghost use Rattle.stabby_tree.specs.Insert.{LinkKept};
+ghost use Rattle.stabby_tree.specs.Root.{RootTook};
 
 use crate::copier::Copier;
 use crate::few::widen;
-use crate::insert::{Up, blank, insert_link};
+use crate::insert::{Up, blank, insert_link, is_full, is_full_at};
 use crate::keyed::Keyed;
 use crate::node::{Item, Limit, Node};
+use crate::spot::place;
 use std::alloc::Allocator;
 use std::mem;
 use std::sync::Arc;
@@ -24,11 +26,22 @@ pub enum Rooted<T> {
     Higher,
 }
 
-// Whether a root has no place for one more entry.
-fn is_full<T, A: Allocator, P: Limit>(root: &Option<Arc<Node<T, A, P>, A>>) -> bool {
+// Whether a root may split at an insert of this key.
+fn may_split<T: Keyed + Drop, A: Allocator + Drop, P: Limit>(
+    root: &Option<Arc<Node<T, A, P>, A>>,
+    key: &T::Key,
+) -> bool
+    requires rising { IsRising T.key_of T.Key.cmp (below root.now) }
+{
+    if !is_full(root) {
+        return false;
+    }
     match root {
         None => true,
-        Some(node) => node.entries.len() + 1 >= P::limit(),
+        Some(node) => {
+            let (at, hit) = place(&node.entries, key);
+            !hit && is_full_at(&node.entries, &node.greater, at)
+        }
     }
 }
 
@@ -46,16 +59,13 @@ pub(crate) fn insert_root<T: Keyed + Drop, A: Allocator + Clone + Drop, P: Limit
     requires exact { (x y : T) → C.is_copy x y → y ≡ x }
     ensures not_less { C.copies copier.old ≤ C.copies copier.new }
     ensures count { C.copies copier.new ≤ C.copies copier.old + (P.limit - 1) * depth_of root.old }
-    ensures value { MatchResult result (RootTook T.key_of T.Key.cmp P.limit value root.old root.new) (RootKept value root.old root.new) }
+    ensures value { MatchResult result (RootTook T.key_of T.Key.cmp P.limit value root.old root.new) (LinkKept value root.old root.new) }
 {
-    if !is_full(root) {
-        return match insert_link(&*root, alloc, copier, value, false) {
+    if !may_split(root, value.key()) {
+        return match insert_link(root, alloc, copier, value, false) {
             Err(refused) => Err(refused),
-            Ok(Up::Same(link, old)) => {
-                *root = link;
-                Ok(Rooted::Same(old))
-            }
-            Ok(Up::Split(_, _, _)) => unreachable!(),
+            Ok(Up::Same(old)) => Ok(Rooted::Same(old)),
+            Ok(Up::Split(_, _)) => unreachable!(),
         };
     }
     let Ok(mut fresh) = blank::<T, A, P>(alloc) else {
@@ -64,13 +74,11 @@ pub(crate) fn insert_root<T: Keyed + Drop, A: Allocator + Clone + Drop, P: Limit
     let Some(room) = Arc::get_mut(&mut fresh) else {
         return Err(value);
     };
-    match insert_link(&*root, alloc, copier, value, true) {
+    match insert_link(root, alloc, copier, value, true) {
         Err(refused) => Err(refused),
-        Ok(Up::Same(link, old)) => {
-            *root = link;
-            Ok(Rooted::Same(old))
-        }
-        Ok(Up::Split(left, middle, right)) => {
+        Ok(Up::Same(old)) => Ok(Rooted::Same(old)),
+        Ok(Up::Split(middle, right)) => {
+            let left = mem::replace(root, None);
             let item = Item {
                 smaller: left,
                 value: middle,

@@ -1,4 +1,4 @@
-//! Lookup in a node.
+//! Lookup below a node.
 
 ghost use Rattle.std.specs.Prelude.{◌≡◌, ℕ, ◌+◌, ◌*◌, ◌-◌, ◌<◌, ◌≤◌, option_copied};
 ghost use Rattle.stabby_tree.specs.Sets.{IsRising, found};
@@ -6,8 +6,8 @@ ghost use Rattle.stabby_tree.specs.Sets.{IsRising, found};
 use crate::keyed::Keyed;
 use crate::node::{Limit, Node};
 use crate::probe::Probe;
+use crate::spot::{ByKey, ByProbe, Spot, seek};
 use std::alloc::Allocator;
-use std::cmp::Ordering;
 
 /// The element with the probe's key, with at most so many comparisons as the entries of one path.
 pub fn search<'a, T: Keyed, A: Allocator, P: Limit, Q: Probe<T>>(
@@ -20,22 +20,13 @@ pub fn search<'a, T: Keyed, A: Allocator, P: Limit, Q: Probe<T>>(
     ensures key { Q.sought probe.new ≡ Q.sought probe.old }
     ensures count { Q.count probe.new ≤ Q.count probe.old + (P.limit - 1) * (node.now.1 + 1) }
 {
-    for at in 0..node.entries.len() {
-        let entry = node.entries.at(at);
-        match probe.compare(&entry.value) {
-            Ordering::Less => {}
-            Ordering::Equal => return Some(&entry.value),
-            Ordering::Greater => {
-                return match &entry.smaller {
-                    Some(child) => search(child, probe),
-                    None => None,
-                };
-            }
+    let mut node = node;
+    'levels: loop {
+        match seek::<T, A, P, Q, ByProbe>(&node.entries, &node.greater, probe) {
+            Spot::Hit(_, element) => return Some(element),
+            Spot::Below(_, None) => return None,
+            Spot::Below(_, Some(child)) => node = &**child,
         }
-    }
-    match &node.greater {
-        Some(child) => search(child, probe),
-        None => None,
     }
 }
 
@@ -47,21 +38,13 @@ pub fn look_up<'a, T: Keyed, A: Allocator, P: Limit>(
     requires rising { IsRising T.key_of T.Key.cmp node.now.0 }
     ensures value { option_copied result ≡ found T.key_of T.Key.cmp node.now.0 key.now }
 {
-    for at in 0..node.entries.len() {
-        let entry = node.entries.at(at);
-        match entry.value.key().cmp(key) {
-            Ordering::Less => {}
-            Ordering::Equal => return Some(&entry.value),
-            Ordering::Greater => {
-                return match &entry.smaller {
-                    Some(child) => look_up(child, key),
-                    None => None,
-                };
-            }
+    let mut node = node;
+    let mut asked = key;
+    'levels: loop {
+        match seek::<T, A, P, &T::Key, ByKey>(&node.entries, &node.greater, &mut asked) {
+            Spot::Hit(_, element) => return Some(element),
+            Spot::Below(_, None) => return None,
+            Spot::Below(_, Some(child)) => node = &**child,
         }
-    }
-    match &node.greater {
-        Some(child) => look_up(child, key),
-        None => None,
     }
 }

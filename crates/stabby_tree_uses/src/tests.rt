@@ -35,6 +35,25 @@ fn many_inserts_counted(rt: HostRuntime) -> Result<(), Fail> {
 }
 
 #[test]
+fn one_owner_copies_nothing(rt: HostRuntime) -> Result<(), Fail> {
+    let alloc = rt.alloc();
+    let mut set = hundred(alloc)?;
+    let mut copier = CloneCopier::new();
+    for i in 100..200u64 {
+        assert!(rt; matches!(set.insert_counted(&mut copier, i), Ok(None)));
+    }
+    assert_eq!(rt; copier.count(), 0);
+    let copy = set.clone()?;
+    assert!(rt; matches!(set.insert_counted(&mut copier, 200), Ok(None)));
+    let count = copier.count();
+    assert!(rt; count > 0);
+    assert!(rt; matches!(set.insert_counted(&mut copier, 201), Ok(None)));
+    assert_eq!(rt; copier.count(), count);
+    assert_eq!(rt; (set.len(), copy.len()), (202, 200));
+    Ok(())
+}
+
+#[test]
 fn elements_in_order(rt: HostRuntime) -> Result<(), Fail> {
     let alloc = rt.alloc();
     let set = hundred(alloc)?;

@@ -1,3 +1,4 @@
 pub mod DrainLemmas
 pub mod Pushing
 pub mod Steps
+pub mod TurnLemmas

@@ -2,8 +2,8 @@
 use Rattle.std.specs.Prelude.{take, drop}
 use Rattle.std.specs.Borrow.{GName}
 use Rattle.stabby_vec.specs.Drains.{Draining, reverse_if}
-use Rattle.stabby_vec.specs.declared.drains.Drain.{Drain}
-use Rattle.stabby_vec.specs.declared.double_ended.DoubleEndedDrain.{DoubleEndedDrain}
+use Rattle.stabby_vec.specs.declared.vec.drains.Drain.{Drain}
+use Rattle.stabby_vec.specs.declared.vec.double_ended.DoubleEndedDrain.{DoubleEndedDrain}
 
 module _ {T A : Type 0} where
   -- what a drain leaves and has left to read

@@ -1,10 +1,9 @@
 pub mod BoxedSliceLends
 pub mod DrainStates
 pub mod Drains
+pub mod Inside
 pub mod Lends
 pub mod Pushes
 pub mod Sequence
-pub mod SingleForm
 pub mod SingleLends
-pub mod SingleParts
 pub mod Singles

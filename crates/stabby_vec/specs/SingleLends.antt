@@ -3,7 +3,7 @@ use Rattle.std.specs.Prelude.{List}
 use Rattle.std.specs.Borrow.{Lends, Fml, RattleType, MutBor, Array}
 use Rattle.std.specs.declared.alloc.Allocator.{Ghosts}
 use Rattle.stabby_vec.specs.Singles.{Single, single_with_items}
-use Rattle.stabby_vec.specs.contracts.single.SingleOrVec.{the_row}
+use Rattle.stabby_vec.specs.contracts.single.list.SingleOrVec.{the_row}
 
 module _ (T A : RattleType) (alloc : Ghosts A.Denot) (v : MutBor (Single T.Denot)) where
   -- once the borrow r ends, the items are those that r shows last

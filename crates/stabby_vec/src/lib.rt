@@ -6,26 +6,13 @@
 //! list. `SingleOrVec` keeps a lone item in the value itself, and `BoxedSlice` never grows.
 #![tactic(auto)]
 
-pub mod boxed_slice;
-mod boxed_traits;
-mod comparison;
-pub mod double_ended;
-pub mod drains;
-pub mod filling;
-pub mod growth;
-pub mod indexing;
-pub mod into_iter;
-mod printing;
-pub mod removal;
-pub mod sequence;
+pub mod boxed;
 pub mod single;
-mod single_comparison;
-pub mod single_growth;
-mod single_parts;
+pub mod vec;
 
-pub use boxed_slice::BoxedSlice;
-pub use double_ended::DoubleEndedDrain;
-pub use drains::Drain;
-pub use into_iter::IntoIter;
-pub use sequence::Vec;
-pub use single::SingleOrVec;
+pub use boxed::{BoxedSlice, slice as boxed_slice};
+pub use single::{SingleOrVec, growth as single_growth};
+pub use vec::{
+    DoubleEndedDrain, Drain, IntoIter, Vec, double_ended, drains, filling, growth, indexing,
+    into_iter, removal, sequence,
+};

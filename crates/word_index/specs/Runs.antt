@@ -128,9 +128,32 @@ pub record CleanRun (r : Run) : Type 0 where
   pub no_read_fault : Rose r.source.faults r.source.faults_after → ⊥
   pub no_write_fault : Rose r.out.faults r.out.faults_after → ⊥
 
--- A status comes where its cause is given; only for want of memory can `Memory` come in place of `Ok`.
+-- the words are a command, the input, told throughout, of no more bytes than the limit, is a text up to this byte and no
+-- further, and no device failed
+pub record CleanCutRun (r : Run) (at : ℕ) : Type 0 where
+  pub bytes : List ℕ
+  pub command : HasCommand r.words
+  pub told : r.source.told ≡ Some bytes
+  pub still_told : IsSome r.source.told_after
+  pub fits : length bytes ≤ input_limit
+  pub cut : IsValidUpTo bytes at
+  pub no_read_fault : Rose r.source.faults r.source.faults_after → ⊥
+  pub no_write_fault : Rose r.out.faults r.out.faults_after → ⊥
+
+-- the words are a command, the input, told throughout, has more bytes than the limit, and no read failed
+pub record CleanLongRun (r : Run) : Type 0 where
+  pub bytes : List ℕ
+  pub command : HasCommand r.words
+  pub told : r.source.told ≡ Some bytes
+  pub still_told : IsSome r.source.told_after
+  pub too_long : input_limit < length bytes
+  pub no_read_fault : Rose r.source.faults r.source.faults_after → ⊥
+
+-- A status comes where its cause is given; only for want of memory can `Memory` come in its place.
 pub record Comes (r : Run) (status : Status) : Type 0 where
   pub ok : CleanRun r → (status ≡ Ok) ⊎ (status ≡ Memory)
   pub usage : IsNoCommand r.words → status ≡ Usage
+  pub not_utf8 : (at : ℕ) → CleanCutRun r at → (status ≡ NotUtf8 at) ⊎ (status ≡ Memory)
+  pub too_long : CleanLongRun r → (status ≡ TooLong) ⊎ (status ≡ Memory)
   pub read_fault : r.source.faults < r.source.faults_after → status ≡ ReadFault
   pub write_fault : r.out.faults < r.out.faults_after → status ≡ WriteFault

@@ -60,6 +60,19 @@ fn outcome<S: Source, K: Sink, H: Threads + Wait + Sync>(
     ensures says { Says (run_of S.Source K.Sink words.now source.old source.new out.old out.new) result }
     ensures comes { Comes (run_of S.Source K.Sink words.now source.old source.new out.old out.new) result }
 {
+    list_input(rt, alloc, words, source, out)
+}
+
+// Reads the input, and writes its lines.
+fn list_input<S: Source, K: Sink, H: Threads + Wait + Sync>(
+    rt: &H,
+    alloc: Global,
+    words: &[String],
+    source: &mut S,
+    out: &mut K,
+) -> Status
+    ensures { Says (run_of S.Source K.Sink words.now source.old source.new out.old out.new) result }
+{
     let Some(command) = parse_command(words) else {
         return Status::Usage;
     };

@@ -6,7 +6,7 @@ use Rattle.stabby_intern.proofs.lines.parse_table.Goals as goal
 use Rattle.stabby_intern.proofs.lines.parse_table.Goals.{in-None+else-b-ne32+else-not-begun+in_ok-push-in-None, in-Some}
 
 pub loop-b-init : goal.loop-b-init
-loop-b-init c = nothing_scanned _ c.in_ok-words.ensures.items
+loop-b-init c = nothing_scanned _ c.clear.ensures.items
 
 pub returns-then-b-ne32-clause-none : goal.returns-then-b-ne32-clause-none
 returns-then-b-ne32-clause-none c none = no_digit c.args.line.now c.loop-b.b-index c.loop-b.words.items c.loop-b.value c.loop-b.begun c.loop-b-test.true c.if-b-ne32.true (c.with_digit.ensures.none (rw c.in-None.is refl)) c.loop-b.invariant
@@ -34,4 +34,4 @@ pub returns-clause-table : goal.returns-clause-table
 returns-clause-table c =
     let all : take c.loop-b.b-index c.args.line.now ≡ c.args.line.now = grind (arith, common_steps) in
     let some : 0 < length c.args.line.now = grind (arith, nat_tests, c.is_empty.ensures, c.if-is_empty.false) in
-    rw c.from_vec-2.ensures (line_read c.args.line.now c.loop-b.words.items _ c.loop-b.value some c.in_ok-push.ensures.items (rw (all, c.if-not-begun-2.false) at c.loop-b.invariant))
+    rw (c.in_ok-from_words.ensures.ok, c.deref.ensures.value) (line_read c.args.line.now c.loop-b.words.items _ c.loop-b.value some c.in_ok-push.ensures.items (rw (all, c.if-not-begun-2.false) at c.loop-b.invariant))

@@ -1,10 +1,7 @@
 use Rattle.std.proofs.Common.{rules, refl, ◌≡◌, ◌<◌, ◌+◌, ◌++◌, ◌∷◌, [], ◌∙◌, take, length}
 use Rattle.std.proofs.lemmas.Result.{err_from_is_err_and}
-use Rattle.stabby_cell.proofs.RecordLemmas.{prefix_same, prefix_trans}
-use Rattle.stabby_cell.proofs.CallLemmas.{no_commit_looked}
 use Rattle.stabby_registry.specs.Passes.{front_of, weight_of}
-use Rattle.stabby_registry.proofs.Working.{known_behind, worked_none, worked_stays, next_known, next_more, read_refused, same_weight, stopped}
-use Rattle.stabby_registry.proofs.PassLemmas.{front_grows}
+use Rattle.stabby_registry.proofs.Working.{known_behind, worked_none, next_known, next_more, stopped}
 use Rattle.stabby_registry.proofs.worker.number_share.Goals as goal
 
 pub loop-at-init : goal.loop-at-init
@@ -33,57 +30,20 @@ loop-at-preserved-in-Some g c =
 pub returns-in_err-number-clause-refused : goal.returns-in_err-number-clause-refused
 returns-in_err-number-clause-refused g c =
     let p = err_from_is_err_and c.from_residual.result c.from_residual.ensures.1 in
-    rw (p.1, p.2) (stopped c.args.registry.now c.loop-at.pass c.insert_gated.new.pass c.args.tables.now c.loop-at.at c.loop-at.numbers.items c.index-tables-at.result c.in_err-number.field-0.0 c.args.registry.now.zero
-    c.insert_gated.ensures.pass c.loop-at.invariant.worked c.in_err-number.ensures.refused)
+    rw (p.1, p.2) (stopped c.args.registry.now c.loop-at.pass c.insert_absent.new.pass c.args.tables.now c.loop-at.at c.loop-at.numbers.items c.index-tables-at.result c.in_err-number.field-0.0 c.args.registry.now.zero
+    c.insert_absent.ensures.pass c.loop-at.invariant.worked c.in_err-number.ensures.refused)
 
 -- the registry gave the table's number
-pub loop-at-preserved-then-missed-len : goal.loop-at-preserved-then-missed-len
-loop-at-preserved-then-missed-len g c =
-    let so = c.loop-at.invariant in
-    let within : c.loop-at.at < length c.args.tables.now = search rules in
-    let same : weight_of c.insert_gated.new.pass ≡ weight_of c.args.pass.now = search rules in
-    record {
-      own = c.insert_gated.ensures.pass;
-      weight = same;
-      worked = rw c.push_reserved-in-loop-at.ensures.items (next_more c.loop-at.pass c.insert_gated.new.pass c.args.tables.now c.loop-at.at c.loop-at.numbers.items c.index-tables-at.result c.in_ok-number.number within
-          c.index-tables-at.is so.worked c.in_ok-number.ensures.inserts c.in_ok-number.ensures.number c.in_ok-number.ensures.distinct);
-      behind = prefix_trans c.loop-at.known (front_of c.loop-at.pass) (front_of c.insert_gated.new.pass) so.behind c.insert_gated.ensures.front;
-      room = c.push_reserved-in-loop-at.ensures.capacity ∙ so.room;
-    }
-
--- and no copy of its version could be had
-pub loop-at-preserved-in_default-try_snapshot : goal.loop-at-preserved-in_default-try_snapshot
-loop-at-preserved-in_default-try_snapshot g c =
-    let so = c.loop-at.invariant in
-    let within : c.loop-at.at < length c.args.tables.now = search rules in
-    let here = next_more c.loop-at.pass c.insert_gated.new.pass c.args.tables.now c.loop-at.at c.loop-at.numbers.items c.index-tables-at.result c.in_ok-number.number within c.index-tables-at.is so.worked
-    c.in_ok-number.ensures.inserts c.in_ok-number.ensures.number c.in_ok-number.ensures.distinct in
-    let same : weight_of c.insert_gated.new.pass ≡ weight_of c.args.pass.now = search rules in
-    let none = read_refused c.insert_gated.new.pass c.try_snapshot.new.pass c.in_default-try_snapshot.field-0 c.in_default-try_snapshot.ensures.refused in
-    record {
-      own = c.try_snapshot.ensures.pass;
-      weight = same_weight _ _ none ∙ same;
-      worked = rw c.push_reserved-in-loop-at.ensures.items
-          (worked_stays c.insert_gated.new.pass c.try_snapshot.new.pass (take (c.loop-at.at + 1) c.args.tables.now) (c.loop-at.numbers.items ++ c.in_ok-number.number ∷ []) here none);
-      behind = prefix_trans c.loop-at.known (front_of c.insert_gated.new.pass) (front_of c.try_snapshot.new.pass)
-          (prefix_trans c.loop-at.known (front_of c.loop-at.pass) (front_of c.insert_gated.new.pass) so.behind c.insert_gated.ensures.front) (front_grows _ _ none);
-      room = c.push_reserved-in-loop-at.ensures.capacity ∙ so.room;
-    }
-
--- and a copy of its version was made
 pub loop-at-preserved : goal.loop-at-preserved
 loop-at-preserved g c =
     let so = c.loop-at.invariant in
     let within : c.loop-at.at < length c.args.tables.now = search rules in
-    let here = next_more c.loop-at.pass c.insert_gated.new.pass c.args.tables.now c.loop-at.at c.loop-at.numbers.items c.index-tables-at.result c.in_ok-number.number within c.index-tables-at.is so.worked
-    c.in_ok-number.ensures.inserts c.in_ok-number.ensures.number c.in_ok-number.ensures.distinct in
-    let same : weight_of c.insert_gated.new.pass ≡ weight_of c.args.pass.now = search rules in
-    let none = no_commit_looked c.insert_gated.new.pass c.try_snapshot.new.pass c.in-Ok-try_snapshot.ensures.looked in
+    let same : weight_of c.insert_absent.new.pass ≡ weight_of c.args.pass.now = search rules in
     record {
-      own = c.try_snapshot.ensures.pass;
-      weight = same_weight _ _ none ∙ same;
-      worked = rw c.push_reserved-in-loop-at.ensures.items
-          (worked_stays c.insert_gated.new.pass c.try_snapshot.new.pass (take (c.loop-at.at + 1) c.args.tables.now) (c.loop-at.numbers.items ++ c.in_ok-number.number ∷ []) here none);
-      behind = rw c.in-Ok-try_snapshot.ensures.list (prefix_same (front_of c.try_snapshot.new.pass));
+      own = c.insert_absent.ensures.pass;
+      weight = same;
+      worked = rw c.push_reserved-in-loop-at.ensures.items (next_more c.loop-at.pass c.insert_absent.new.pass c.args.tables.now c.loop-at.at c.loop-at.numbers.items c.index-tables-at.result c.in_ok-number.number within
+          c.index-tables-at.is so.worked c.in_ok-number.ensures.inserts c.in_ok-number.ensures.number c.in_ok-number.ensures.distinct);
+      behind = c.in_ok-number.ensures.behind;
       room = c.push_reserved-in-loop-at.ensures.capacity ∙ so.room;
     }

@@ -1,6 +1,6 @@
 use denote.Param.Send.{sendable, param_sync}
 use Rattle.std.proofs.alloc.Global.TheSendSync as global
-use Rattle.stabby_registry.proofs.table.WordTable.TheSendSync as table
+use Rattle.stabby_word_table.proofs.table.WordTable.TheSendSync as table
 use Rattle.stabby_registry.proofs.Sending.{job_send, registry_sync}
 use Rattle.stabby_registry.proofs.worker.run_jobs.Lts as lts
 use Rattle.stabby_registry.proofs.worker.run_jobs.Goals as goal

@@ -2,9 +2,9 @@ use Rattle.std.proofs.Common.{arith, refl, sym, ap, ◌∙◌, ◌≡◌, ◌+�
 use Rattle.std.specs.Prelude.{slice_range}
 use Rattle.stabby_cell.proofs.RecordLemmas.{prefix_trans}
 use Rattle.stabby_registry.specs.Inserts.{IsNumber}
-use Rattle.stabby_c.specs.Clients.{front_of, InsertFault}
+use Rattle.stabby_c.specs.Clients.{front_of, InsertFault, TriedEach}
 use Rattle.stabby_c.specs.Batches.{table_at, AreNumbered}
-use Rattle.stabby_c.proofs.Batching.{sum_more, numbered_later, numbered_more, next_table}
+use Rattle.stabby_c.proofs.Batching.{sum_more, numbered_later, numbered_more, next_table, each_more}
 use Rattle.stabby_c.proofs.client.Client.try_insert_all.Goals as goal
 
 -- the tables before the one that was refused
@@ -25,6 +25,8 @@ returns-in-Err-clause-stopped c _ _ =
         fault = c.in-Err.fault;
         answer_is = c.from.ensures;
         before = c.loop-at.self;
+        each = subst (λ n. TriedEach c.args.self.now n c.loop-at.self) (sym so.done) so.each;
+        tried = c.in-Err.ensures.tried;
         from = so.same;
         grown = so.front;
         refused = subst (λ t. InsertFault c.loop-at.self c.try_insert.new.self t c.in-Err.fault) table c.in-Err.ensures.refused;
@@ -43,6 +45,7 @@ loop-at-preserved c =
       from = omega (arith, so.from, more);
       done = refl;
       room = omega (arith, so.room, length-set c.loop-at.numbers c.loop-at.at c.in-Ok.number);
+      each = each_more c.args.self.now c.loop-at.self c.try_insert.new.self c.loop-at.at c.in-Ok.number so.each c.in-Ok.ensures.tried;
       numbered = numbered_more (front_of c.loop-at.self) (front_of c.try_insert.new.self) c.args.words.now c.args.lengths.now c.loop-at.numbers c.loop-at.at c.in-Ok.number c.in-Ok.ensures.front so.numbered room
           (subst (λ t. IsNumber (front_of c.try_insert.new.self) t c.in-Ok.number) table c.in-Ok.ensures.number);
     }

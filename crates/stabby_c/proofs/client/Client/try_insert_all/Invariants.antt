@@ -1,7 +1,7 @@
 use Rattle.std.proofs.Common.{◌≡◌, ◌≤◌, length, take}
 use mathlib.Core.List.{IsPrefix}
 use Rattle.std.specs.List.{sum}
-use Rattle.stabby_c.specs.Clients.{home_of, front_of}
+use Rattle.stabby_c.specs.Clients.{home_of, front_of, TriedEach}
 use Rattle.stabby_c.specs.Batches.{AreNumbered}
 use Rattle.stabby_c.proofs.client.Client.try_insert_all.Given as goal
 
@@ -12,5 +12,6 @@ invariant-loop-at l = record {
   from : l.from ≡ sum (take l.at l.lengths);
   done : l.done ≡ l.at;
   room : length l.lengths ≤ length l.numbers;
+  each : TriedEach l.initial.self l.at l.self;
   numbered : AreNumbered (front_of l.self) l.words l.lengths l.numbers l.at;
 }

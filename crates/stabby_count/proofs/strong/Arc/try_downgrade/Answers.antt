@@ -1,16 +1,7 @@
 use Rattle.std.proofs.Common.{rules, arith}
 use Rattle.std.proofs.lemmas.Grind.{common_steps}
-use Rattle.stabby_count.proofs.Kept.{keeps_look, keeps_downgrade, cuts_weak}
+use Rattle.stabby_count.proofs.Kept.{cuts_weak}
 use Rattle.stabby_count.proofs.strong.Arc.try_downgrade.Goals as goal
-
-pub look-first-requires : goal.look-first-requires
-look-first-requires g c = (search rules, keeps_look _ _)
-
-pub downgrade-second-requires-clause-count : goal.downgrade-second-requires-clause-count
-downgrade-second-requires-clause-count g c = grind (arith, common_steps)
-
-pub downgrade-second-requires-clause-seat : goal.downgrade-second-requires-clause-seat
-downgrade-second-requires-clause-seat g c = (search rules, keeps_downgrade _ _ _ _ (grind (arith, common_steps)) (grind (arith, common_steps)) (grind (arith, common_steps)))
 
 pub split_seat-seat-requires : goal.split_seat-seat-requires
 split_seat-seat-requires g c = (search rules, cuts_weak _ _ (grind (arith, common_steps)) (grind (arith, common_steps)))

@@ -1,55 +1,22 @@
-use Rattle.std.proofs.Common.{inl, inr}
-use Rattle.std.proofs.lemmas.Result.{err_from_is_err_and}
-use Rattle.stabby_cell.proofs.CallLemmas.{no_commit_looked}
-use Rattle.stabby_registry.proofs.Inserting.{inserted_there, not_known, full_front}
-use Rattle.stabby_registry.proofs.PassLemmas.{nothing_done, then_looked}
+use Rattle.std.proofs.Common.{◌≡◌, ◌∙◌, false, sym, subst}
+use Rattle.stabby_tables.specs.Lists.{has}
+use Rattle.stabby_cell.specs.Passes.{front_of}
+use Rattle.stabby_registry.specs.Inserts.{IsNumber}
+use Rattle.stabby_registry.proofs.Versions.{number_found, none_found}
+use Rattle.stabby_registry.proofs.Inserting.{ok_after, err_after, not_known}
 use Rattle.stabby_registry.proofs.registry.VtBtree.insert_gated.Goals as goal
 
-pub loop-init : goal.loop-init
-loop-init g c = record { own = c.requires; so_far = nothing_done _ }
+pub returns-in-Some-clause-number : goal.returns-in-Some-clause-number
+returns-in-Some-clause-number g c =
+    subst (λ f. IsNumber f c.args.table.now c.in-Some.number) c.in_ok-known.ensures.list (number_found c.in_ok-known.known c.args.table.now c.in-Some.number (sym c.in-Some.is ∙ c.number_of.ensures.number))
 
-pub returns-in_err-number-clause-refused : goal.returns-in_err-number-clause-refused
-returns-in_err-number-clause-refused g c =
-    let p = err_from_is_err_and c.from_residual.result c.from_residual.ensures.1 in
-    rw (p.1, p.2) (no_commit_looked _ _ (then_looked _ _ _ c.loop.invariant.so_far c.find.ensures.looked))
+pub returns-clause-inserts : goal.returns-clause-inserts
+returns-clause-inserts g c = ok_after c.args.pass.now c.snapshot.new.pass c.insert_absent.new.pass c.args.table.now c.insert_absent.result c.snapshot.ensures.looked c.insert_absent.ensures.inserts
 
-pub returns-in-Known-clause-inserts : goal.returns-in-Known-clause-inserts
-returns-in-Known-clause-inserts g c = inl (then_looked _ _ _ c.loop.invariant.so_far c.find.ensures.looked)
+pub returns-clause-known : goal.returns-clause-known
+returns-clause-known g c known =
+    let absent : has (front_of c.snapshot.new.pass) c.args.table.now ≡ false = subst (λ f. has f c.args.table.now ≡ false) c.in_ok-known.ensures.list (none_found c.in_ok-known.known c.args.table.now (sym c.in_default.is ∙ c.number_of.ensures.number)) in
+    absurd (not_known c.args.pass.now c.snapshot.new.pass c.args.table.now c.snapshot.ensures.looked absent known)
 
-pub returns-in-Known-clause-known : goal.returns-in-Known-clause-known
-returns-in-Known-clause-known g c known = then_looked _ _ _ c.loop.invariant.so_far c.find.ensures.looked
-
-pub returns-in-Full-clause-refused : goal.returns-in-Full-clause-refused
-returns-in-Full-clause-refused g c =
-    full_front c.args.self.now c.args.pass.now c.find.new.pass c.args.table.now c.seen.result c.args.self.now.zero c.find.ensures.pass
-    (rw c.in-Full.is at c.in_ok-number.ensures.found) c.seen.ensures.stamp c.seen.ensures.limit (then_looked _ _ _ c.loop.invariant.so_far c.find.ensures.looked)
-
-pub returns-in_err-next-in-Absent-clause-refused : goal.returns-in_err-next-in-Absent-clause-refused
-returns-in_err-next-in-Absent-clause-refused g c =
-    let p = err_from_is_err_and c.from_residual-in_err-next-in-Absent.result c.from_residual-in_err-next-in-Absent.ensures.1 in
-    rw (p.1, p.2) (no_commit_looked _ _ (then_looked _ _ _ c.loop.invariant.so_far c.find.ensures.looked))
-
-pub returns-in-Committed-clause-number : goal.returns-in-Committed-clause-number
-returns-in-Committed-clause-number g c =
-    (inserted_there c.args.self.now c.args.pass.now c.find.new.pass c.offer.new.pass c.args.table.now c.len-number.result c.in-Absent.version c.in_ok-next-in-Absent.next c.args.self.now.zero c.find.ensures.pass
-    (then_looked _ _ _ c.loop.invariant.so_far c.find.ensures.looked) c.find.ensures.distinct (rw c.in-Absent.is at c.in_ok-number.ensures.found) c.len-number.ensures.count c.in_ok-next-in-Absent.ensures.ok (rw c.in-Committed.is at c.offer.ensures.offered)).number
-
-pub returns-in-Committed-clause-inserts : goal.returns-in-Committed-clause-inserts
-returns-in-Committed-clause-inserts g c = inr
-    (inserted_there c.args.self.now c.args.pass.now c.find.new.pass c.offer.new.pass c.args.table.now c.len-number.result c.in-Absent.version c.in_ok-next-in-Absent.next c.args.self.now.zero c.find.ensures.pass
-    (then_looked _ _ _ c.loop.invariant.so_far c.find.ensures.looked) c.find.ensures.distinct (rw c.in-Absent.is at c.in_ok-number.ensures.found) c.len-number.ensures.count c.in_ok-next-in-Absent.ensures.ok (rw c.in-Committed.is at c.offer.ensures.offered)).adds
-
-pub returns-in-Committed-clause-distinct : goal.returns-in-Committed-clause-distinct
-returns-in-Committed-clause-distinct g c =
-    (inserted_there c.args.self.now c.args.pass.now c.find.new.pass c.offer.new.pass c.args.table.now c.len-number.result c.in-Absent.version c.in_ok-next-in-Absent.next c.args.self.now.zero c.find.ensures.pass
-    (then_looked _ _ _ c.loop.invariant.so_far c.find.ensures.looked) c.find.ensures.distinct (rw c.in-Absent.is at c.in_ok-number.ensures.found) c.len-number.ensures.count c.in_ok-next-in-Absent.ensures.ok (rw c.in-Committed.is at c.offer.ensures.offered)).distinct
-
-pub returns-in-Committed-clause-known : goal.returns-in-Committed-clause-known
-returns-in-Committed-clause-known g c known =
-    absurd (not_known c.args.pass.now c.find.new.pass c.args.table.now (then_looked _ _ _ c.loop.invariant.so_far c.find.ensures.looked) ((rw c.in-Absent.is at c.in_ok-number.ensures.found).0) known)
-
-pub loop-preserved : goal.loop-preserved
-loop-preserved g c = record {
-  own = c.offer.ensures.pass;
-  so_far = no_commit_looked _ _ (then_looked _ _ _ (no_commit_looked _ _ (then_looked _ _ _ c.loop.invariant.so_far c.find.ensures.looked)) (rw c.in-Moved.is at c.offer.ensures.offered));
-}
+pub returns-clause-refused : goal.returns-clause-refused
+returns-clause-refused g c = err_after c.args.pass.now c.snapshot.new.pass c.insert_absent.new.pass c.args.table.now c.insert_absent.result c.snapshot.ensures.looked c.insert_absent.ensures.refused

@@ -1,5 +1,5 @@
 use Rattle.std.proofs.Common.{◌+◌, ap}
-use Rattle.stabby_tree.proofs.AtSet.{after_old, after_new}
+use Rattle.stabby_tree.proofs.AtSet.{after_old, after_new, after_refusal}
 use Rattle.stabby_tree.proofs.set.ArcBTreeSet.insert_counted.Goals as goal
 
 pub invariant_of-self-in-Ok-Same-Some : goal.invariant_of-self-in-Ok-Same-Some
@@ -19,3 +19,6 @@ returns-in-Ok-Same-None-clause-rising g c = (after_new g.T.Keyed.key_of g.T.Key.
 
 pub returns-in-Ok-Higher-clause-rising : goal.returns-in-Ok-Higher-clause-rising
 returns-in-Ok-Higher-clause-rising g c = (after_new g.T.Keyed.key_of g.T.Key.Ord.cmp g.row.SPLIT_LIMIT g.met.T.Key.Ord.total c.args.value _ _ _ _ _ _ _ (rw c.in-Ok-Higher.field-0-is at c.in-Ok-Higher.ensures.value) c.self.invariant c.saturating_add-self-inside-in-Ok-Higher.ensures (ap (λ n. n + 1) c.self.invariant.4)).0
+
+pub invariant_of-self : goal.invariant_of-self
+invariant_of-self g c = after_refusal g.T.Keyed.key_of g.T.Key.Ord.cmp g.row.SPLIT_LIMIT c.args.value _ _ _ _ _ c.in-Err.ensures.value c.self.invariant

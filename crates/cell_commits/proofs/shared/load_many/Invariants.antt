@@ -1,5 +1,0 @@
-use Rattle.stabby_cell.specs.Shared.{IsPassOf}
-use Rattle.cell_commits.proofs.shared.load_many.Given as goal
-
-abbrev pub invariant-loop : goal.invariant-loop
-invariant-loop g l = IsPassOf l.cell l.pass

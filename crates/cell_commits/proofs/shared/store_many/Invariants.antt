@@ -1,5 +1,0 @@
-use Rattle.stabby_cell.specs.Shared.{IsPassOf}
-use Rattle.cell_commits.proofs.shared.store_many.Given as goal
-
-abbrev pub invariant-loop-number : goal.invariant-loop-number
-invariant-loop-number g l = IsPassOf l.cell l.pass
