@@ -57,6 +57,21 @@ impl<T: Clone> Copier<T> for CloneCopier {
     }
 }
 
+/// Copies by `Clone`, and counts nothing.
+#[derive(Drop)]
+pub(crate) struct PlainCopier;
+
+impl<T: Clone> Copier<T> for PlainCopier {
+    ghost copies = { λ c. 18446744073709551615 };
+
+    ghost is_copy = { λ x y. T.is_clone x y };
+
+    #[inline(always)]
+    fn copy(&mut self, element: &T) -> Result<T, AllocError> {
+        element.clone()
+    }
+}
+
 /// A copy of the element, by the copier.
 #[inline(always)]
 pub(crate) fn copied<T, C: Copier<T>>(element: &T, copier: &mut C) -> Result<T, AllocError>

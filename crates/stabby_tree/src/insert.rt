@@ -68,9 +68,17 @@ fn copy_item<T: Drop, A: Allocator + Drop, P: Limit, C: Copier<T>>(
     ensures not_less { C.copies copier.old ≤ C.copies copier.new }
     ensures count { C.copies copier.new ≤ C.copies copier.old + 1 }
 {
-    let smaller = share(&item.smaller)?;
     let value = copied(&item.value, copier)?;
-    Ok(Item { smaller, value })
+    match &item.smaller {
+        None => Ok(Item {
+            smaller: None,
+            value,
+        }),
+        Some(node) => Ok(Item {
+            smaller: Some(Arc::try_clone(node)?),
+            value,
+        }),
+    }
 }
 
 /// A vector of entries of the same values.
@@ -190,6 +198,7 @@ pub(crate) fn is_full_at<T, A: Allocator, P: Limit>(
 /// Puts the value into entries that are no one else's, at the place that `place` has found. They get one more only where
 /// the caller absorbs it.
 #[cycle(insert)]
+#[inline(always)]
 fn insert_between<T: Keyed + Drop, A: Allocator + Clone + Drop, P: Limit, C: Copier<T>>(
     entries: &mut Few<Item<Node<T, A, P>, T, A>, A>,
     greater: &mut Option<Arc<Node<T, A, P>, A>>,
@@ -262,6 +271,7 @@ fn insert_between<T: Keyed + Drop, A: Allocator + Clone + Drop, P: Limit, C: Cop
 /// Puts the value into a node that is no one else's. The half that a split needs is made before the node is changed, and
 /// only where a split may come.
 #[cycle(insert)]
+#[inline(always)]
 fn insert_node<T: Keyed + Drop, A: Allocator + Clone + Drop, P: Limit, C: Copier<T>>(
     node: &mut Node<T, A, P>,
     alloc: &A,

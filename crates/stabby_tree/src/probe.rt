@@ -53,7 +53,7 @@ impl<T: Keyed> Probe<T> for KeyProbe<T::Key> {
     ghost count = { λ p. p.count };
 
     fn compare(&mut self, element: &T) -> Ordering {
-        let order = element.key().cmp(&self.key);
+        let order = element.compare(&self.key);
         self.count += 1;
         order
     }

@@ -5,7 +5,7 @@ ghost use Rattle.std.specs.List.{FoldsTo, find};
 ghost use Rattle.std.specs.Fn.{CalledAt, FnReturnsAt};
 ghost use Rattle.stabby_tree.specs.Sets.{IsLimit, IsRising, IsHeightOf, found, replaces, inserted, given_back};
 
-use crate::copier::{CloneCopier, Copier};
+use crate::copier::{Copier, PlainCopier};
 use crate::insert::share;
 use crate::keyed::Keyed;
 use crate::node::{Node, SplitAt};
@@ -161,7 +161,7 @@ impl<
         ensures value_back { IfErr result (λ refusal. refusal ≡ (value, AllocationError.Memory)) }
         ensures no_memory_for_a_known_key { REPLACE_ON_INSERT ≡ 0 → IsSome (found T.key_of T.Key.cmp self.old.items (T.key_of value)) → IsOk result }
     {
-        let mut copier = CloneCopier::new();
+        let mut copier = PlainCopier;
         self.insert_counted(&mut copier, value)
     }
 

@@ -46,7 +46,7 @@ impl<'a, T: Keyed> Asks<T, &'a T::Key> for ByKey {
 
     #[inline(always)]
     fn order(asked: &mut &'a T::Key, element: &T) -> Ordering {
-        element.key().cmp(*asked)
+        element.compare(*asked)
     }
 }
 

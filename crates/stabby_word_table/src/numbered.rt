@@ -5,23 +5,28 @@ ghost use Rattle.std.specs.Prelude.{◌≡◌, IfOk};
 use crate::table::WordTable;
 use stabby_tree::Keyed;
 use std::alloc::{AllocError, Global};
+use std::cmp::Ordering;
 use std::marker::Model;
 use std::sync::Arc;
 
 /// A shared table with its number, keyed by the table.
 #[derive(Drop)]
 pub struct Numbered {
+    first: u64,
     table: Arc<WordTable, Global>,
     number: u64,
 }
 
 impl Model for Numbered {
-    ghost use Rattle.std.specs.Prelude.{List, ℕ};
+    ghost use Rattle.std.specs.Prelude.{◌≡◌, List, ℕ, slice_index};
     ghost use Rattle.std.specs.Arc.{arc_value};
 
     ghost Value = { List ℕ × ℕ };
 
     ghost view = { λ n. (arc_value n.table, n.number) };
+
+    // `first` is the table's first word, or 0: most comparisons end with it, and read no table.
+    ghost invariant = { λ n. n.first ≡ slice_index (arc_value n.table) 0 };
 }
 
 impl Numbered {
@@ -29,7 +34,11 @@ impl Numbered {
     pub fn new(table: Arc<WordTable, Global>, number: u64) -> Numbered
         ensures { result ≡ (table.value, number) }
     {
-        Numbered { table, number }
+        Numbered {
+            first: table.first(),
+            table,
+            number,
+        }
     }
 
     /// The table.
@@ -62,6 +71,7 @@ impl Clone for Numbered {
 
     fn clone(&self) -> Result<Numbered, AllocError> {
         Ok(Numbered {
+            first: self.first,
             table: Arc::try_clone(&self.table)?,
             number: self.number,
         })
@@ -75,5 +85,13 @@ impl Keyed for Numbered {
 
     fn key(&self) -> &WordTable {
         &self.table
+    }
+
+    #[inline(always)]
+    fn compare(&self, key: &WordTable) -> Ordering {
+        match self.first.cmp(&key.first()) {
+            Ordering::Equal => self.table.words().cmp(&key.words()),
+            unequal => unequal,
+        }
     }
 }

@@ -1,6 +1,6 @@
 //! Tables of words.
 
-ghost use Rattle.std.specs.Prelude.{◌≡◌, IfOk, IfErr, Some, nat_eq};
+ghost use Rattle.std.specs.Prelude.{◌≡◌, IfOk, IfErr, Some, nat_eq, slice_index};
 ghost use Rattle.std.proofs.Common.{refl, rules};
 ghost use Rattle.std.specs.Hash as fed;
 ghost use Rattle.std.specs.Ordering.{nat_cmp};
@@ -55,7 +55,16 @@ impl WordTable {
         }
     }
 
+    // The first word, or 0.
+    #[inline(always)]
+    pub(crate) fn first(&self) -> u64
+        ensures { result ≡ slice_index self.now 0 }
+    {
+        self.words.first()
+    }
+
     /// The words in order.
+    #[inline(always)]
     pub fn words(&self) -> &[u64]
         ensures { result.now ≡ self.now }
     {
@@ -109,6 +118,7 @@ impl Ord for WordTable {
 
     ghost matches_eq = { λ a b. texts_ties a b };
 
+    #[inline(always)]
     fn cmp(&self, other: &WordTable) -> Ordering {
         match self.words.first().cmp(&other.words.first()) {
             Ordering::Equal => self.words.as_slice().cmp(&other.words.as_slice()),

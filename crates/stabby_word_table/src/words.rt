@@ -69,6 +69,7 @@ impl Words {
     }
 
     // The words in order.
+    #[inline(always)]
     pub(crate) fn as_slice(&self) -> &[u64]
         ensures { result.now ≡ words_in self.now }
     {
@@ -82,6 +83,7 @@ impl Words {
     }
 
     // The first word, or 0: most comparisons end with it.
+    #[inline(always)]
     pub(crate) fn first(&self) -> u64
         ensures { result ≡ slice_index (words_in self.now) 0 }
     {
