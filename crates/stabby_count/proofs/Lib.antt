@@ -5,5 +5,6 @@ pub mod Machines
 pub mod Rows
 pub mod Kept
 pub mod Looks
+pub mod Raises
 pub mod Lenders
 pub mod SliceLoans

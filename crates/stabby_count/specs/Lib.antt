@@ -4,13 +4,12 @@ pub mod Views
 pub mod Rule
 pub mod Rows
 pub mod Tells
-pub mod Held
 pub mod Records
 pub mod Raising
 pub mod Shared
 pub mod Loans
 pub mod SharedSlices
 pub mod SharedTexts
-pub mod BoxedLists
+pub mod SharedLists
 pub mod SliceLoans
 pub mod SliceLends

@@ -2,29 +2,11 @@
 use Rattle.std.specs.Prelude.{◌≡◌, Option, Result, is_some, IfOk}
 use Rattle.std.specs.Borrow.{LendsSo, LendsSoOk, Fml, RattleType, MutBor}
 use Rattle.stabby_layout.specs.declared.error.AllocationError.{AllocationError}
-use Rattle.stabby_count.specs.Held.{held_or}
 use Rattle.stabby_count.specs.Shared.{arc_value, arc_block, IsSole, IsLent, PartsWays, FindsOthers}
 use Rattle.stabby_count.specs.declared.strong.Arc.{Arc}
 use Rattle.stabby_count.specs.contracts.strong.Arc.{the_row}
 
-module _ {X : Type 0} where
-  -- nothing but the value in the handle's own box may be another one, which is x
-  abbrev pub HoldsWritten : Arc X → Arc X → X → Type 0
-  HoldsWritten before after x =
-      (is_some after.own ≡ is_some before.own) × (held_or after.own (λ b. b.value) x ≡ x) × (after.seat ≡ before.seat)
-
-  abbrev pub IsUntouched : Arc X → Arc X → Type 0
-  IsUntouched before after =
-      (after.own ≡ before.own) × (after.permission ≡ before.permission) × (after.seat ≡ before.seat)
-
 module _ (T : RattleType) (a : MutBor (Arc T.Denot)) where
-  -- what `lend` and `lend_owned` leave, which read no word
-  abbrev pub own_lends : Option (MutBor T.Denot) → Fml
-  own_lends r = LendsSo (the_row T) T a r (λ n w. HoldsWritten a.now n w) (λ n. IsUntouched a.now n)
-
-  abbrev pub own_lends_ok : Result (MutBor T.Denot) AllocationError → Fml
-  own_lends_ok r = LendsSoOk (the_row T) T a r (λ n w. HoldsWritten a.now n w) (λ n. IsUntouched a.now n)
-
   -- what `get_mut` leaves: one read told whether it lends, and what is written is the value from then on
   abbrev pub arc_lends : Option (MutBor T.Denot) → Fml
   arc_lends r = LendsSo (the_row T) T a r (λ n w. IsLent a.now n w (is_some r)) (λ n. IsLent a.now n (arc_value a.now) (is_some r))

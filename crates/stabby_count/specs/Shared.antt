@@ -1,6 +1,5 @@
 -- What a contract says of the handles of shared values.
 use Rattle.std.specs.Prelude.{◌≡◌, ◌≢◌, ◌⊎◌, ◌↔◌, ℕ, ◌<◌, Bool, true, false, List, [], ◌∷◌, ◌++◌, Result, IsOk, IfErr, MatchResult}
-use Rattle.stabby_count.specs.Held.{held_or}
 use Rattle.stabby_count.specs.Records.{AddsLook, ReadsAlone, note, alone, strong_of}
 use Rattle.stabby_count.specs.declared.machine.Step.TheVariants.{Look, EndStrong}
 use Rattle.stabby_count.specs.declared.view.Note.{Note}
@@ -11,23 +10,23 @@ use Rattle.stabby_count.specs.declared.weak.Weak.{Weak}
 module _ {X : Type 0} where
   -- the value that a strong handle reads
   abbrev pub arc_value : Arc X → X
-  arc_value a = held_or a.own (λ b. b.value) a.permission.value
+  arc_value a = a.share.value
 
   -- which count word a handle counts in: one number for all handles of one shared value
   abbrev pub arc_block : Arc X → ℕ
-  arc_block a = a.seat.views
+  arc_block a = a.share.names.views
 
   -- the handle's own steps, in order
   abbrev pub arc_record : Arc X → List Note
-  arc_record a = a.seat.view.notes
+  arc_record a = a.share.view.notes
 
   -- no other handle of the value is there
   abbrev pub IsSole : Arc X → Type 0
-  IsSole a = 0 < a.seat.view.sole
+  IsSole a = 0 < a.share.view.sole
 
   -- another handle was made of it, or it of another one, and no look told since that it is alone
   abbrev pub IsShared : Arc X → Type 0
-  IsShared a = a.seat.view.sole ≡ 0
+  IsShared a = a.share.view.sole ≡ 0
 
   -- one read told whether a handle lends its value: one that did has the value x, which was written, and one that did
   -- not has its own
@@ -89,13 +88,13 @@ module _ {X : Type 0} where
 
   -- the value that an upgrade gives
   abbrev pub weak_value : Weak X → X
-  weak_value w = w.permission.value
+  weak_value w = w.share.value
 
   abbrev pub weak_block : Weak X → ℕ
-  weak_block w = w.seat.views
+  weak_block w = w.share.names.views
 
   abbrev pub weak_record : Weak X → List Note
-  weak_record w = w.seat.view.notes
+  weak_record w = w.share.view.notes
 
   -- the weak handle has the same value, and counts in the same word
   abbrev pub IsSameWeak : Weak X → Weak X → Type 0

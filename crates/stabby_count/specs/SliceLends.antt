@@ -2,7 +2,7 @@
 use Rattle.std.specs.Prelude.{List, Option, is_some}
 use Rattle.std.specs.Borrow.{Array, Lends, LendsSo, Fml, RattleType, MutBor}
 use Rattle.stabby_vec.specs.Sequence.{Sequence}
-use Rattle.stabby_count.specs.BoxedLists.{list_row}
+use Rattle.stabby_count.specs.SharedLists.{list_row}
 use Rattle.stabby_count.specs.SharedSlices.{slice_value, slice_items, IsLentList, IsLentSlice}
 use Rattle.stabby_count.specs.SliceLoans.{with_own_items, with_slice_items}
 use Rattle.stabby_count.specs.declared.slice.ArcSlice.{ArcSlice}
@@ -11,7 +11,7 @@ use Rattle.stabby_count.specs.contracts.slice.ArcSlice as slice
 use Rattle.stabby_count.specs.contracts.strong.Arc as handle
 
 module _ (T : RattleType) where
-  -- the items in the handle's own box are those that r shows last
+  -- the items are those that r shows last
   abbrev pub own_lends_items : MutBor (Arc (Sequence T.Denot)) → MutBor (List T.Denot) → Fml
   own_lends_items a r = Lends (handle.the_row (list_row T)) (Array T 0) a r (with_own_items a.now)
 

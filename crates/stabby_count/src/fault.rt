@@ -5,7 +5,7 @@
 pub enum CountFault {
     /// The word read has the count to be raised at its limit, 2^32 - 1.
     Full { word: u64 },
-    /// No memory for a further hold on the shared block.
+    /// No memory for a further handle. None is wanted today.
     Memory,
 }
 
@@ -16,6 +16,6 @@ pub enum TryCountFault {
     Moved { first: u64, second: u64 },
     /// The word read has the count to be raised at its limit, 2^32 - 1.
     Full { word: u64 },
-    /// No memory for a further hold on the shared block.
+    /// No memory for a further handle. None is wanted today.
     Memory,
 }

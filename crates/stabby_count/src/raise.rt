@@ -1,13 +1,19 @@
-//! One shape for all calls that raise a count: a look, and then an exchange that expects the word which was read last.
-ghost use Rattle.std.specs.Prelude.{◌≡◌, ◌<◌, IsTrue, IfErr, OnOk, false};
-ghost use Rattle.stabby_count_word.specs.Steps.{IsOf, KindBy, SameValue, Stepped};
-ghost use Rattle.stabby_count.specs.Raising.{HasRoom, LacksRoom, MayRaise, Raised, RaisedAfterLooks, Refused, RefusedAfterLooks, RefusedFrom, held_by, made_by, view_by};
+//! One shape for all calls that raise a count: a look, an exchange that expects the word which was read last, and a split.
+ghost use Rattle.std.specs.Prelude.{◌≡◌, ◌<◌, IsTrue, IfOk, IfErr, OnOk, false};
+ghost use Rattle.stabby_count_word.specs.Changes.{kind_after, kind_before};
+ghost use Rattle.stabby_count_word.specs.Steps.{KindBy};
+ghost use Rattle.stabby_count.specs.Raising.{HasRoom, HasTwo, IsOfSame, LacksRoom, MayBegin, MayRaise, Parted, Raised, RaisedAfterLooks, Refused, RefusedAfterLooks, RefusedFrom, Stays, change_by, view_by};
 ghost use Rattle.stabby_count.specs.Tells.{Reads, ToldWhere};
 
+use crate::fault::TryCountFault;
 use crate::view::View;
 use crate::word::{COUNT_LIMIT, ONE_STRONG, ONE_WEAK};
-use crate::word_steps::{Clone as CloneStep, Downgrade, Look, SharedCounts, Upgrade};
-use stabby_count_word::{CountWord, Permission, Seat};
+use crate::word_steps::{
+    Clone as CloneStep, Downgrade, GiveStrong, GiveWeak, Look, SharedCounts, Upgrade, WeakClone,
+};
+use stabby_count_word::Share;
+use std::alloc::Global;
+use std::mem;
 use std::sync::Wait;
 
 /// A call that raises a count.
@@ -23,15 +29,6 @@ pub(crate) enum Raise {
     Upgrade,
 }
 
-/// Why one try did not raise its count.
-#[derive(Drop)]
-pub(crate) enum RaiseFault {
-    /// The exchange read another word.
-    Moved { first: u64, second: u64 },
-    /// The word read is at its limit, or has no strong handle to upgrade to.
-    Refused { word: u64 },
-}
-
 // Whether a word has room for one handle more.
 fn has_room(raise: Raise, word: u64) -> bool
     ensures room { IsTrue result → HasRoom raise word }
@@ -45,80 +42,95 @@ fn has_room(raise: Raise, word: u64) -> bool
     }
 }
 
-fn exchange<T>(
-    word: &CountWord<T, View, SharedCounts>,
-    seat: &mut Seat<View>,
-    permission: &mut Permission<T>,
-    raise: Raise,
-    old: u64,
-) -> u64
+fn exchange<T>(share: &mut Share<T, Global, View, SharedCounts>, raise: Raise, old: u64) -> u64
     requires room { HasRoom raise old }
-    requires view { MayRaise raise seat.old.view × Reads seat.old.view old }
-    requires seat { seat.old.views ≡ word.now.views }
-    requires permission { IsOf word.now (held_by raise) permission.old }
-    ensures seat { Stepped (ToldWhere (view_by raise) old old seat.old.view) seat.old result seat.new }
-    ensures permission { SameValue permission.old permission.new }
-    ensures kind { KindBy result old (made_by raise) (held_by raise) permission.new.kind }
+    requires view { MayRaise raise share.old.view × Reads share.old.view old }
+    requires kind { share.old.kind ≡ kind_before (change_by raise) }
+    ensures same { IsOfSame share.old share.new }
+    ensures view { ToldWhere (view_by raise) old old share.old.view result share.new.view }
+    ensures kind { KindBy result old (kind_after (change_by raise)) (kind_before (change_by raise)) share.new.kind }
 {
     match raise {
-        Raise::Clone => word.clone_strong::<CloneStep>(seat, permission, old, old + ONE_STRONG),
-        Raise::Downgrade => word.downgrade::<Downgrade>(seat, permission, old, old + ONE_WEAK),
-        Raise::WeakClone => word.clone_weak::<Downgrade>(seat, permission, old, old + ONE_WEAK),
-        Raise::Upgrade => word.upgrade::<Upgrade>(seat, permission, old, old + ONE_STRONG),
+        Raise::Clone => share.exchange::<CloneStep>(old, old + ONE_STRONG),
+        Raise::Downgrade => share.exchange::<Downgrade>(old, old + ONE_WEAK),
+        Raise::WeakClone => share.exchange::<WeakClone>(old, old + ONE_WEAK),
+        Raise::Upgrade => share.exchange::<Upgrade>(old, old + ONE_STRONG),
     }
 }
 
-// One exchange, which expects the word `found` that the seat read last.
+// Cuts a share whose count was raised in two: the new handle's is the answer.
+fn cut<T>(
+    share: &mut Share<T, Global, View, SharedCounts>,
+    raise: Raise,
+) -> Share<T, Global, View, SharedCounts>
+    requires view { HasTwo raise share.old.view }
+    requires kind { share.old.kind ≡ kind_after (change_by raise) }
+    ensures same { IsOfSame share.old share.new }
+    ensures parted { Parted raise share.old.view share.new result }
+{
+    match raise {
+        Raise::Clone => share.split::<GiveStrong>(),
+        Raise::Downgrade | Raise::WeakClone => share.split::<GiveWeak>(),
+        Raise::Upgrade => {
+            let weak = share.split::<GiveWeak>();
+            mem::replace(share, weak)
+        }
+    }
+}
+
+// One exchange, which expects the word `found` that the share read last. Where it gives no share, it answers the word
+// that it read, or `found`, which has no room.
 fn raise_from<T>(
-    word: &CountWord<T, View, SharedCounts>,
-    seat: &mut Seat<View>,
-    permission: &mut Permission<T>,
+    share: &mut Share<T, Global, View, SharedCounts>,
     raise: Raise,
     found: u64,
-) -> Result<(), RaiseFault>
-    requires view { MayRaise raise seat.old.view × Reads seat.old.view found }
-    requires seat { seat.old.views ≡ word.now.views }
-    requires permission { IsOf word.now (held_by raise) permission.old }
-    ensures seat { (seat.new.views ≡ seat.old.views) × (seat.new.id ≡ seat.old.id) }
-    ensures permission { SameValue permission.old permission.new }
-    ensures raised { OnOk result (HasRoom raise found × (seat.new.view ≡ view_by raise seat.old.view found)) }
-    ensures refused { IfErr result (RefusedFrom raise found seat.old.view seat.new.view) }
-    ensures made { OnOk result (permission.new.kind ≡ made_by raise) }
-    ensures held { IfErr result (λ fault. permission.new.kind ≡ held_by raise) }
+) -> Result<Share<T, Global, View, SharedCounts>, u64>
+    requires view { MayRaise raise share.old.view × Reads share.old.view found }
+    requires kind { share.old.kind ≡ kind_before (change_by raise) }
+    ensures same { IsOfSame share.old share.new }
+    ensures room { OnOk result (HasRoom raise found) }
+    ensures parted { IfOk result (Parted raise (view_by raise share.old.view found) share.new) }
+    ensures refused { IfErr result (RefusedFrom raise found share.old.view share.new.view) }
+    ensures kept { IfErr result (λ word. share.new.kind ≡ kind_before (change_by raise)) }
 {
     if !has_room(raise, found) {
-        return Err(RaiseFault::Refused { word: found });
+        return Err(found);
     }
-    let second = exchange(word, seat, permission, raise, found);
+    let second = exchange(share, raise, found);
     if second == found {
-        Ok(())
+        Ok(cut(share, raise))
     } else {
-        Err(RaiseFault::Moved {
-            first: found,
-            second,
-        })
+        Err(second)
     }
 }
 
-/// A look, and one exchange that expects the word that it read.
+/// A look, and one exchange that expects the word that it read. `Full` has a word without room, which for an upgrade
+/// may have no strong handle.
 pub(crate) fn try_raise<T>(
-    word: &CountWord<T, View, SharedCounts>,
-    seat: &mut Seat<View>,
-    permission: &mut Permission<T>,
+    share: &mut Share<T, Global, View, SharedCounts>,
     raise: Raise,
-) -> Result<(), RaiseFault>
-    requires view { MayRaise raise seat.old.view }
-    requires seat { seat.old.views ≡ word.now.views }
-    requires permission { IsOf word.now (held_by raise) permission.old }
-    ensures seat { (seat.new.views ≡ seat.old.views) × (seat.new.id ≡ seat.old.id) }
-    ensures permission { SameValue permission.old permission.new }
-    ensures raised { OnOk result (Raised raise seat.old.view seat.new.view) }
-    ensures refused { IfErr result (Refused raise seat.old.view seat.new.view) }
-    ensures made { OnOk result (permission.new.kind ≡ made_by raise) }
-    ensures held { IfErr result (λ fault. permission.new.kind ≡ held_by raise) }
+) -> Result<Share<T, Global, View, SharedCounts>, TryCountFault>
+    requires view { MayRaise raise share.old.view }
+    requires kind { MayBegin raise share.old.kind }
+    ensures same { IsOfSame share.old share.new }
+    ensures raised { IfOk result (Raised raise share.old.view share.new) }
+    ensures refused { IfErr result (Refused raise share.old.view share.new.view) }
+    ensures kept { IfErr result (λ fault. Stays raise share.old.view share.new) }
 {
-    let found = word.look::<Look>(seat);
-    raise_from(word, seat, permission, raise, found)
+    let found = share.give_back::<Look>();
+    match raise_from(share, raise, found) {
+        Ok(other) => Ok(other),
+        Err(word) => {
+            if word == found {
+                Err(TryCountFault::Full { word })
+            } else {
+                Err(TryCountFault::Moved {
+                    first: found,
+                    second: word,
+                })
+            }
+        }
+    }
 }
 
 #[tactic(auto, using(crate::proofs::Looks::looks_first))]
@@ -126,28 +138,27 @@ pub(crate) fn try_raise<T>(
 /// that the last step read. The word without room is the refusal.
 pub(crate) fn wait_to_raise<T, H: Wait>(
     rt: &H,
-    word: &CountWord<T, View, SharedCounts>,
-    seat: &mut Seat<View>,
-    permission: &mut Permission<T>,
+    share: &mut Share<T, Global, View, SharedCounts>,
     raise: Raise,
-) -> Result<(), u64>
-    requires view { MayRaise raise seat.old.view }
-    requires seat { seat.old.views ≡ word.now.views }
-    requires permission { IsOf word.now (held_by raise) permission.old }
-    ensures seat { (seat.new.views ≡ seat.old.views) × (seat.new.id ≡ seat.old.id) }
-    ensures permission { SameValue permission.old permission.new }
-    ensures raised { OnOk result (RaisedAfterLooks raise seat.old.view seat.new.view) }
-    ensures refused { IfErr result (RefusedAfterLooks raise seat.old.view seat.new.view) }
-    ensures sole { 0 < seat.old.view.sole → OnOk result (Raised raise seat.old.view seat.new.view) }
-    ensures made { OnOk result (permission.new.kind ≡ made_by raise) }
-    ensures held { IfErr result (λ word. permission.new.kind ≡ held_by raise) }
+) -> Result<Share<T, Global, View, SharedCounts>, u64>
+    requires view { MayRaise raise share.old.view }
+    requires kind { MayBegin raise share.old.kind }
+    ensures same { IsOfSame share.old share.new }
+    ensures raised { IfOk result (RaisedAfterLooks raise share.old.view share.new) }
+    ensures refused { IfErr result (RefusedAfterLooks raise share.old.view share.new.view) }
+    ensures sole { 0 < share.old.view.sole → IfOk result (Raised raise share.old.view share.new) }
+    ensures kept { IfErr result (λ word. Stays raise share.old.view share.new) }
 {
-    let mut found = word.look::<Look>(seat);
+    let mut found = share.give_back::<Look>();
     for _ in rt.forever() {
-        match raise_from(word, seat, permission, raise, found) {
-            Ok(()) => return Ok(()),
-            Err(RaiseFault::Moved { first: _, second }) => found = second,
-            Err(RaiseFault::Refused { word }) => return Err(word),
+        match raise_from(share, raise, found) {
+            Ok(other) => return Ok(other),
+            Err(word) => {
+                if word == found {
+                    return Err(word);
+                }
+                found = word;
+            }
         }
     }
     unreachable!()

@@ -1,47 +1,40 @@
 //! The list or the items of a shared slice, lent to be changed in place.
 ghost use Rattle.std.specs.Borrow.{sem};
-ghost use Rattle.std.specs.Prelude.{◌≡◌, IfSome, true, is_some};
-ghost use Rattle.stabby_count.specs.BoxedLists.{box_lends_items, held_lends_items};
+ghost use Rattle.std.specs.Prelude.{◌≡◌};
+ghost use Rattle.stabby_count.specs.SharedLists.{share_lends_items};
+ghost use Rattle.stabby_count_word.specs.Kinds.{held};
 
 use crate::slice::ArcSlice;
 use crate::strong::Arc;
-use stabby_count_word::RawBox;
+use stabby_count_word::{CountRule, Share};
 use stabby_vec::Vec;
 use std::alloc::{Allocator, Global};
 
-// The items of a boxed list.
-fn boxed_items<T, A: Allocator, B: Allocator>(boxed: &mut RawBox<Vec<T, A>, B>) -> &mut [T]
-    ensures* writes_back { sem 𝓛 (box_lends_items T.row A.row B.row A.Allocator B.Allocator boxed.entry result) }
-    ensures value { result.now ≡ boxed.old.value.items }
+// The items of a share's list.
+fn share_items<T, A: Allocator, B: Allocator, W, P: CountRule<W>>(
+    share: &mut Share<Vec<T, A>, B, W, P>,
+) -> &mut [T]
+    requires { share.old.kind ≡ held }
+    ensures* writes_back { sem 𝓛 (share_lends_items T.row A.row B.row W.row P.row A.Allocator B.Allocator P.CountRule share.entry result) }
+    ensures value { result.now ≡ share.old.value.items }
 {
-    boxed.get_mut().as_slice_mut()
-}
-
-// The items of a boxed list that is there.
-fn held_items<T, A: Allocator, B: Allocator>(held: &mut Option<RawBox<Vec<T, A>, B>>) -> &mut [T]
-    requires { is_some held.old ≡ true }
-    ensures* writes_back { sem 𝓛 (held_lends_items T.row A.row B.row A.Allocator B.Allocator held.entry result) }
-    ensures value { IfSome held.old (λ boxed. result.now ≡ boxed.value.items) }
-{
-    match held {
-        Some(boxed) => boxed_items(boxed),
-        None => unreachable!(),
-    }
+    share.show_mut().as_slice_mut()
 }
 
 impl<T> Arc<Vec<T, Global>> {
     ghost use Rattle.std.specs.Borrow.{sem};
-    ghost use Rattle.std.specs.Prelude.{◌≡◌, true, is_some};
+    ghost use Rattle.std.specs.Prelude.{◌≡◌};
     ghost use Rattle.stabby_count.specs.Shared.{arc_value};
     ghost use Rattle.stabby_count.specs.SliceLends.{own_lends_items};
+    ghost use Rattle.stabby_count_word.specs.Kinds.{held};
 
-    // The items, while the list is in a box of the handle's own.
+    // The items, while the handle may lend its list.
     fn own_items(&mut self) -> &mut [T]
-        requires { is_some self.old.own ≡ true }
+        requires { self.old.share.kind ≡ held }
         ensures* writes_back { sem 𝓛 (own_lends_items T.row self.entry result) }
         ensures value { result.now ≡ (arc_value self.old).items }
     {
-        held_items(&mut self.own)
+        share_items(&mut self.share)
     }
 }
 
@@ -51,11 +44,12 @@ impl<T> ArcSlice<T> {
     ghost use Rattle.stabby_count.specs.Records.{ReadsAlone};
     ghost use Rattle.stabby_count.specs.SharedSlices.{slice_value, slice_items, slice_record, IsSoleSlice, IsSameSlice};
     ghost use Rattle.stabby_count.specs.SliceLends.{slice_lends_own, slice_lends_list, slice_lends_items};
+    ghost use Rattle.stabby_count_word.specs.Kinds.{held};
 
-    // One read. Where it is of one strong and one weak, the handle has its list in a box.
+    // One read. Where it is of one strong and one weak, the handle may lend its list.
     fn seize(&mut self) -> bool
         ensures read { ReadsAlone (slice_record self.old) (slice_record self.new) result }
-        ensures boxed { is_some self.new.shared.own ≡ result }
+        ensures held { IsTrue result → self.new.shared.share.kind ≡ held }
         ensures sole { IsSoleSlice self.old → IsTrue result }
         ensures becomes_sole { IsTrue result → IsSoleSlice self.new }
         ensures kept { IsSameSlice self.old self.new }
@@ -63,9 +57,9 @@ impl<T> ArcSlice<T> {
         self.shared.seize()
     }
 
-    // The items, while the list is in a box of the handle's own.
+    // The items, while the handle may lend its list.
     fn own_items(&mut self) -> &mut [T]
-        requires { is_some self.old.shared.own ≡ true }
+        requires { self.old.shared.share.kind ≡ held }
         ensures* writes_back { sem 𝓛 (slice_lends_own T.row self.entry result) }
         ensures value { result.now ≡ slice_items self.old }
     {

@@ -1,8 +1,12 @@
 //! What is left of a handle that ended.
 ghost use Rattle.std.specs.Prelude.{◌≡◌, ◌+◌};
+ghost use Rattle.stabby_count_word.specs.Kinds.{block, nothing};
+ghost use Rattle.stabby_count_word.specs.Steps.{KindBy};
 
 use crate::view::View;
-use stabby_count_word::Seat;
+use crate::word_steps::SharedCounts;
+use stabby_count_word::{Seat, Share};
+use std::alloc::Global;
 
 /// The seat of a handle that ended, with its record and no share.
 #[derive(Drop)]
@@ -20,5 +24,17 @@ impl Spent {
         ensures { result ≡ spent_word self.now }
     {
         self.word
+    }
+}
+
+/// Leaves a block after an end of a unit of the low half that read `word`, and frees it where that was the last.
+pub(crate) fn leave<T>(share: Share<T, Global, View, SharedCounts>, word: u64) -> Seat<View>
+    requires { KindBy word 1 block nothing share.kind }
+    ensures { (result.views ≡ share.names.views) × (result.view ≡ share.view) }
+{
+    if word == 1 {
+        share.free()
+    } else {
+        share.done()
     }
 }

@@ -1,39 +1,32 @@
 //! Strong handles.
-ghost use Rattle.std.specs.Prelude.{◌≡◌, ◌+◌, ◌≤◌, None, is_some};
-ghost use Rattle.stabby_count.specs.Held.{kind_by, sole_by};
+ghost use Rattle.std.specs.Prelude.{◌≡◌};
+ghost use Rattle.std.proofs.Props.{props};
+ghost use Rattle.stabby_count_word.proofs.KindFacts.{IsStrong-prop};
 ghost use Rattle.stabby_count_word.specs.Kinds.{last};
+ghost use Rattle.stabby_count_word.specs.Steps.{IsStrong};
 
 use crate::fault::{CountFault, TryCountFault};
-use crate::raise::{Raise, RaiseFault, try_raise, wait_to_raise};
-use crate::spent::Spent;
+use crate::raise::{Raise, try_raise, wait_to_raise};
+use crate::spent::{Spent, leave};
 use crate::view::View;
 use crate::weak::Weak;
 use crate::word::{ALONE, ONE_STRONG};
-use crate::word_steps::{
-    EndSole, EndStrong, GiveStrong, GiveWeak, Look, LookSole, Rest, SharedCounts, Take,
-};
-use stabby_count_word::{CountWord, Permission, RawBox, Seat};
+use crate::word_steps::{EndSole, EndStrong, Look, LookSole, Rest, SharedCounts, Take};
+use stabby_count_word::Share;
 use stabby_layout::AllocationError;
 use stabby_text::MakeFault;
-use std::alloc::{AllocError, AllocFailed, Global};
+use std::alloc::Global;
 use std::mem;
 use std::ops::Deref;
-use std::sync::{Arc as Block, Wait};
+use std::sync::Wait;
 
 /// A strong handle of a shared value.
 ///
 /// The value is there for as long as a strong handle is. Whoever ends the last one gets it. A handle that
 /// is the only one may change it.
 pub struct Arc<T> {
-    pub(crate) block: Block<CountWord<T, View, SharedCounts>, Global>,
-    pub(crate) seat: Seat<View>,
-    pub(crate) permission: Permission<T>,
-    // The value's box, while the handle is sole and has lent it.
-    pub(crate) own: Option<RawBox<T, Global>>,
-    pub(crate) alloc: Global,
-    ghost one_word: { (seat.views ≡ block.value.views) × (permission.word_names ≡ block.value) },
-    ghost one_share: { (permission.kind ≡ kind_by (is_some own)) × (seat.view.strong ≡ 1) × (seat.view.weak ≡ 0) },
-    ghost sole_while_lent: { sole_by (is_some own) ≤ seat.view.sole },
+    pub(crate) share: Share<T, Global, View, SharedCounts>,
+    ghost one_share: { IsStrong share.kind × (share.view.strong ≡ 1) × (share.view.weak ≡ 0) } by { Prim.hlevel (props, IsStrong-prop) },
 }
 
 impl<T> Arc<T> {
@@ -44,10 +37,7 @@ impl<T> Arc<T> {
     fn get(&self) -> &T
         ensures { result.now ≡ arc_value self.now }
     {
-        match &self.own {
-            Some(boxed) => boxed.get(),
-            None => self.permission.get(),
-        }
+        self.share.show()
     }
 
     /// How many strong handles there are, from one read of the word.
@@ -58,7 +48,7 @@ impl<T> Arc<T> {
         ensures sole_word { IsSole self.old → AddsLook (arc_record self.old) (arc_record self.new) alone }
         ensures kept { IsSameArc self.old self.new }
     {
-        self.block.look::<Look>(&mut self.seat) / ONE_STRONG
+        self.share.look::<Look>() / ONE_STRONG
     }
 
     /// How many weak handles there are, and one more, from one read of the word.
@@ -69,7 +59,7 @@ impl<T> Arc<T> {
         ensures sole_word { IsSole self.old → AddsLook (arc_record self.old) (arc_record self.new) alone }
         ensures kept { IsSameArc self.old self.new }
     {
-        self.block.look::<Look>(&mut self.seat) % ONE_STRONG
+        self.share.look::<Look>() % ONE_STRONG
     }
 
     /// Whether this is the only handle, from one read of the word.
@@ -79,7 +69,7 @@ impl<T> Arc<T> {
         ensures becomes_sole { IsTrue result → IsSole self.new }
         ensures kept { IsSameArc self.old self.new }
     {
-        self.block.look::<LookSole>(&mut self.seat) == ALONE
+        self.share.look::<LookSole>() == ALONE
     }
 }
 
@@ -101,44 +91,20 @@ impl<T> Deref for Arc<T> {
 impl<T> Arc<T> {
     ghost use Rattle.std.specs.Borrow.{sem};
     ghost use Rattle.std.specs.Prelude.{◌≡◌, IsTrue, IfSome, true, is_some};
-    ghost use Rattle.stabby_count.specs.Loans.{own_lends, arc_lends};
+    ghost use Rattle.stabby_count.specs.Loans.{arc_lends};
     ghost use Rattle.stabby_count.specs.Shared.{arc_value, arc_record, IsSole, IsSameArc};
     ghost use Rattle.stabby_count.specs.Records.{ReadsAlone};
+    ghost use Rattle.stabby_count_word.specs.Kinds.{held};
 
-    // One read. Where it is of one strong and one weak, the handle has its value in a box.
+    // One read. Where it is of one strong and one weak, the handle may lend its value.
     pub(crate) fn seize(&mut self) -> bool
         ensures read { ReadsAlone (arc_record self.old) (arc_record self.new) result }
-        ensures boxed { is_some self.new.own ≡ result }
+        ensures held { IsTrue result → self.new.share.kind ≡ held }
         ensures sole { IsSole self.old → IsTrue result }
         ensures becomes_sole { IsTrue result → IsSole self.new }
         ensures kept { IsSameArc self.old self.new }
     {
-        if self.own.is_some() {
-            let word = self.block.look::<LookSole>(&mut self.seat);
-            return word == ALONE;
-        }
-        let read = self
-            .block
-            .seize::<LookSole>(&mut self.seat, &mut self.permission);
-        if read != ALONE {
-            return false;
-        }
-        let boxed = self.permission.take_box(self.alloc);
-        match mem::replace(&mut self.own, Some(boxed)) {
-            None => true,
-            Some(_) => unreachable!(),
-        }
-    }
-
-    fn lend(&mut self) -> Option<&mut T>
-        ensures* writes_back { sem 𝓛 (own_lends T.row self.entry result) }
-        ensures boxed { is_some result ≡ is_some self.old.own }
-        ensures value { IfSome result (λ r. r.now ≡ arc_value self.old) }
-    {
-        match &mut self.own {
-            Some(boxed) => Some(boxed.get_mut()),
-            None => None,
-        }
+        self.share.seize::<LookSole>() == ALONE
     }
 
     /// The value to be changed, where this is the only handle.
@@ -150,32 +116,22 @@ impl<T> Arc<T> {
         ensures value { IfSome result (λ r. r.now ≡ arc_value self.old) }
         ensures sole { IsSole self.old → is_some result ≡ true }
     {
-        if self.seize() { self.lend() } else { None }
+        if self.seize() {
+            Some(self.share.show_mut())
+        } else {
+            None
+        }
     }
 }
 
 impl<T> Arc<T> {
-    ghost use Rattle.std.specs.Prelude.{◌≡◌, IfOk, IfErr, OnOk, OnErr, None};
+    ghost use Rattle.std.specs.Prelude.{◌≡◌, IfOk, IfErr, OnOk, OnErr};
     ghost use Rattle.stabby_count.specs.Shared.{arc_value, arc_block, arc_record, weak_value, weak_block, weak_record, IsSole, IsShared, IsSameArc};
     ghost use Rattle.stabby_count.specs.Records.{AddsStep, Raises, RefusesTry, alone, strong_of, weak_of};
     ghost use Rattle.stabby_count.specs.declared.machine.Step.TheVariants.{Clone as CloneNote, Downgrade as DowngradeNote};
     ghost use Rattle.stabby_count.specs.declared.fault.TryCountFault.TheVariants.{Memory};
 
-    // A box that was lent goes back to the block, for others to share.
-    fn settle(&mut self)
-        ensures own { self.new.own ≡ None }
-        ensures seat { (self.new.seat.views ≡ self.old.seat.views) × (self.new.seat.view ≡ self.old.seat.view) }
-        ensures value { arc_value self.new ≡ arc_value self.old }
-    {
-        if let Some(boxed) = self.own.take() {
-            let none = self.permission.split();
-            let permission = mem::replace(&mut self.permission, none).put_box(boxed);
-            mem::replace(&mut self.permission, permission).done();
-            self.block
-                .give_back::<Rest>(&mut self.seat, &mut self.permission);
-        }
-    }
-
+    #[tactic(auto, using(crate::proofs::Raises::clone_refuses, crate::proofs::Raises::clone_never_refused))]
     /// One more strong handle of the same value, by one try.
     pub fn try_clone(&mut self) -> Result<Arc<T>, TryCountFault>
         ensures value { IfOk result (λ other. arc_value other ≡ arc_value self.old) }
@@ -189,33 +145,13 @@ impl<T> Arc<T> {
         ensures sole { IsSole self.old → IfErr result (λ fault. fault ≡ Memory) }
         ensures kept { IsSameArc self.old self.new }
     {
-        self.settle();
-        let Ok(block) = Block::try_clone(&self.block) else {
-            return Err(TryCountFault::Memory);
-        };
-        match try_raise(
-            &self.block,
-            &mut self.seat,
-            &mut self.permission,
-            Raise::Clone,
-        ) {
-            Ok(()) => {}
-            Err(RaiseFault::Moved { first, second }) => {
-                return Err(TryCountFault::Moved { first, second });
-            }
-            Err(RaiseFault::Refused { word }) => return Err(TryCountFault::Full { word }),
+        match try_raise(&mut self.share, Raise::Clone) {
+            Ok(share) => Ok(Arc { share }),
+            Err(fault) => Err(fault),
         }
-        let permission = self.permission.split();
-        let seat = self.block.split_seat::<GiveStrong>(&mut self.seat);
-        Ok(Arc {
-            block,
-            seat,
-            permission,
-            own: None,
-            alloc: self.alloc,
-        })
     }
 
+    #[tactic(auto, using(crate::proofs::Raises::downgrade_refuses, crate::proofs::Raises::downgrade_never_refused))]
     /// One weak handle of the same value, by one try.
     pub fn try_downgrade(&mut self) -> Result<Weak<T>, TryCountFault>
         ensures value { IfOk result (λ weak. weak_value weak ≡ arc_value self.old) }
@@ -229,30 +165,10 @@ impl<T> Arc<T> {
         ensures sole { IsSole self.old → IfErr result (λ fault. fault ≡ Memory) }
         ensures kept { IsSameArc self.old self.new }
     {
-        self.settle();
-        let Ok(block) = Block::try_clone(&self.block) else {
-            return Err(TryCountFault::Memory);
-        };
-        match try_raise(
-            &self.block,
-            &mut self.seat,
-            &mut self.permission,
-            Raise::Downgrade,
-        ) {
-            Ok(()) => {}
-            Err(RaiseFault::Moved { first, second }) => {
-                return Err(TryCountFault::Moved { first, second });
-            }
-            Err(RaiseFault::Refused { word }) => return Err(TryCountFault::Full { word }),
+        match try_raise(&mut self.share, Raise::Downgrade) {
+            Ok(share) => Ok(Weak { share }),
+            Err(fault) => Err(fault),
         }
-        let permission = self.permission.split();
-        let seat = self.block.split_seat::<GiveWeak>(&mut self.seat);
-        Ok(Weak {
-            block,
-            seat,
-            permission,
-            alloc: self.alloc,
-        })
     }
 }
 
@@ -276,29 +192,10 @@ impl<T> Arc<T> {
         ensures sole { IsSole self.old → IfErr result (λ fault. fault ≡ Memory) }
         ensures kept { IsSameArc self.old self.new }
     {
-        self.settle();
-        let Ok(block) = Block::try_clone(&self.block) else {
-            return Err(CountFault::Memory);
-        };
-        match wait_to_raise(
-            rt,
-            &self.block,
-            &mut self.seat,
-            &mut self.permission,
-            Raise::Clone,
-        ) {
-            Ok(()) => {}
-            Err(word) => return Err(CountFault::Full { word }),
+        match wait_to_raise(rt, &mut self.share, Raise::Clone) {
+            Ok(share) => Ok(Arc { share }),
+            Err(word) => Err(CountFault::Full { word }),
         }
-        let permission = self.permission.split();
-        let seat = self.block.split_seat::<GiveStrong>(&mut self.seat);
-        Ok(Arc {
-            block,
-            seat,
-            permission,
-            own: None,
-            alloc: self.alloc,
-        })
     }
 
     /// One weak handle of the same value. It tries again where another handle was in the way.
@@ -314,60 +211,28 @@ impl<T> Arc<T> {
         ensures sole { IsSole self.old → IfErr result (λ fault. fault ≡ Memory) }
         ensures kept { IsSameArc self.old self.new }
     {
-        self.settle();
-        let Ok(block) = Block::try_clone(&self.block) else {
-            return Err(CountFault::Memory);
-        };
-        match wait_to_raise(
-            rt,
-            &self.block,
-            &mut self.seat,
-            &mut self.permission,
-            Raise::Downgrade,
-        ) {
-            Ok(()) => {}
-            Err(word) => return Err(CountFault::Full { word }),
+        match wait_to_raise(rt, &mut self.share, Raise::Downgrade) {
+            Ok(share) => Ok(Weak { share }),
+            Err(word) => Err(CountFault::Full { word }),
         }
-        let permission = self.permission.split();
-        let seat = self.block.split_seat::<GiveWeak>(&mut self.seat);
-        Ok(Weak {
-            block,
-            seat,
-            permission,
-            alloc: self.alloc,
-        })
     }
 }
 
-// What is left of a place for a box, where there is none.
-fn no_box<T>(own: Option<RawBox<T, Global>>)
-    requires { own ≡ None }
+// Takes the value that is due to the share, and frees the block where no weak handle is left.
+fn take_value<T>(share: Share<T, Global, View, SharedCounts>) -> T
+    requires last { share.kind ≡ last }
+    requires due { share.view.due ≡ 1 }
+    ensures { result ≡ share.value }
 {
-    match own {
-        None => {}
-        Some(_) => unreachable!(),
-    }
-}
-
-// Takes the value that is due to the seat.
-fn take_value<T>(
-    word: &CountWord<T, View, SharedCounts>,
-    seat: &mut Seat<View>,
-    mut permission: Permission<T>,
-    alloc: Global,
-) -> T
-    requires due { (seat.old.view.due ≡ 1) × (seat.old.views ≡ word.now.views) }
-    requires last { (permission.kind ≡ last) × (permission.word_names ≡ word.now) }
-    ensures { result ≡ permission.value }
-{
-    let mut unit = permission.split();
-    word.end_weak::<Take>(seat, &mut unit);
-    unit.done();
-    permission.into_box(alloc).into_inner()
+    let mut share = share;
+    let value = share.take();
+    let word = share.end_weak::<Take>();
+    drop(leave(share, word));
+    value
 }
 
 impl<T> Arc<T> {
-    ghost use Rattle.std.specs.Prelude.{◌≡◌, ◌↔◌, [], ℕ, IfOk, IfErr, IsOk, None};
+    ghost use Rattle.std.specs.Prelude.{◌≡◌, ◌↔◌, [], ℕ, IfOk, IfErr, IsOk};
     ghost use Rattle.stabby_count.specs.Shared.{arc_value, arc_record, spent_record, spent_word, record_after_end, IsSole, IsSameArc, EndsAt, LeavesOthers, FindsOthers};
     ghost use Rattle.stabby_count.specs.Records.{AddsLook, alone};
     ghost use Rattle.stabby_layout.specs.declared.error.AllocationError.TheVariants.{Memory};
@@ -381,50 +246,27 @@ impl<T> Arc<T> {
         ensures new_record { IfOk result (λ made. arc_record made ≡ []) }
         ensures value_back { IfErr result (λ back. back ≡ (value, Memory)) }
     {
-        let boxed = match RawBox::new(alloc, value) {
-            Ok(boxed) => boxed,
-            Err(value) => return Err((value, AllocationError::Memory)),
-        };
-        let (word, mut seat, mut permission) = CountWord::new(boxed);
-        match Block::new(alloc, word) {
-            Ok(block) => Ok(Arc {
-                block,
-                seat,
-                permission,
-                own: None,
-                alloc,
-            }),
-            Err(AllocFailed { value: word }) => {
-                word.end_strong::<EndStrong>(&mut seat, &mut permission);
-                let value = take_value(&word, &mut seat, permission, alloc);
-                Err((value, AllocationError::Memory))
-            }
+        match Share::make(alloc, value) {
+            Ok(share) => Ok(Arc { share }),
+            Err(value) => Err((value, AllocationError::Memory)),
         }
     }
 
-    // The end of a handle whose value is in the block, and the word that its step read.
+    // The end of a handle, and the word that its step read.
     fn finish(self) -> (Result<T, Spent>, u64)
-        requires { self.own ≡ None }
         ensures exactly { EndsAt result.0 result.1 }
         ensures value { IfOk result.0 (λ value. value ≡ arc_value self) }
         ensures spent { IfErr result.0 (LeavesOthers self) }
         ensures added { IfErr result.0 (λ spent. spent_record spent ≡ record_after_end self (spent_word spent)) }
         ensures sole { IsSole self → IsOk result.0 }
     {
-        let Arc {
-            block,
-            mut seat,
-            mut permission,
-            own,
-            alloc,
-        } = self;
-        no_box(own);
-        let word = block.end_strong::<EndStrong>(&mut seat, &mut permission);
+        let Arc { mut share } = self;
+        let word = share.end_strong::<EndStrong>();
         if word / ONE_STRONG != 1 {
-            permission.done();
+            let seat = share.done();
             return (Err(Spent { seat, word }), word);
         }
-        (Ok(take_value(&block, &mut seat, permission, alloc)), word)
+        (Ok(take_value(share)), word)
     }
 
     /// Ends the handle by one step. The value comes exactly where that step read one strong.
@@ -435,41 +277,25 @@ impl<T> Arc<T> {
         ensures added { IfErr result (λ spent. spent_record spent ≡ record_after_end self (spent_word spent)) }
         ensures sole { IsSole self → IsOk result }
     {
-        let mut whole = self;
-        whole.settle();
-        let (answer, _word) = whole.finish();
+        let (answer, _word) = self.finish();
         answer
     }
 
-    // One exchange, by a handle whose value is in the block, and the word that it read.
+    // One exchange, and the word that it read.
     fn end_sole(self) -> (Result<T, Arc<T>>, u64)
-        requires { self.own ≡ None }
         ensures exactly { IsOk result.0 ↔ (result.1 ≡ alone) }
         ensures value { IfOk result.0 (λ value. value ≡ arc_value self) }
         ensures value_back { IfErr result.0 (IsSameArc self) }
         ensures shared { IfErr result.0 (λ back. AddsLook (arc_record self) (arc_record back) result.1) }
         ensures sole { IsSole self → IsOk result.0 }
     {
-        let Arc {
-            block,
-            mut seat,
-            mut permission,
-            own,
-            alloc,
-        } = self;
-        let word = block.end_sole::<EndSole>(&mut seat, &mut permission, ALONE, 1);
+        let Arc { mut share } = self;
+        share.give_back::<Rest>();
+        let word = share.exchange::<EndSole>(ALONE, 1);
         if word != ALONE {
-            let back = Arc {
-                block,
-                seat,
-                permission,
-                own,
-                alloc,
-            };
-            return (Err(back), word);
+            return (Err(Arc { share }), word);
         }
-        no_box(own);
-        (Ok(take_value(&block, &mut seat, permission, alloc)), word)
+        (Ok(take_value(share)), word)
     }
 
     /// The value, where this is the only handle, by one exchange.
@@ -481,9 +307,7 @@ impl<T> Arc<T> {
         ensures shared { IfErr result (FindsOthers self) }
         ensures sole { IsSole self → IsOk result }
     {
-        let mut whole = self;
-        whole.settle();
-        let (answer, _word) = whole.end_sole();
+        let (answer, _word) = self.end_sole();
         answer
     }
 }
@@ -519,26 +343,15 @@ impl<T> Arc<T> {
 
 impl<T: Clone + Drop> Arc<T> {
     ghost use Rattle.std.specs.Borrow.{sem};
-    ghost use Rattle.std.specs.Prelude.{◌≡◌, ◌↔◌, IfOk, IfErr, IfSome, IfNone, IsOk, OnErr, OnOk, is_some, true};
-    ghost use Rattle.stabby_count.specs.Loans.{own_lends_ok, arc_lends_alone};
+    ghost use Rattle.std.specs.Prelude.{◌≡◌, IfOk, IfErr, IfSome, IfNone, IsOk, OnErr, OnOk};
+    ghost use Rattle.stabby_count_word.specs.Kinds.{held};
+    ghost use Rattle.stabby_count.specs.Loans.{arc_lends_alone};
     ghost use Rattle.stabby_count.specs.Shared.{arc_value, IsSole, IsSameArc, IsOrClones, StaysAlone, PartsWays, EndsAfterLook, FindsOthers};
     ghost use Rattle.stabby_layout.specs.declared.error.AllocationError.TheVariants.{Memory};
 
-    fn lend_owned(&mut self) -> Result<&mut T, AllocationError>
-        ensures* writes_back { sem 𝓛 (own_lends_ok T.row self.entry result) }
-        ensures boxed { IsOk result ↔ (is_some self.old.own ≡ true) }
-        ensures value { IfOk result (λ r. r.now ≡ arc_value self.old) }
-        ensures memory { IfErr result (λ error. error ≡ Memory) }
-    {
-        match &mut self.own {
-            Some(boxed) => Ok(boxed.get_mut()),
-            None => Err(AllocationError::Memory),
-        }
-    }
-
     // A handle of its own, where the value was shared, and then what the end of the handle before it gave.
     fn part_ways(&mut self, alloc: Global) -> Result<Option<Result<T, Spent>>, AllocationError>
-        ensures own { OnOk result (is_some self.new.own ≡ true) }
+        ensures held { OnOk result (self.new.share.kind ≡ held) }
         ensures sole { OnOk result (IsSole self.new) }
         ensures value { OnOk result (IsOrClones T.is_clone (arc_value self.old) (arc_value self.new)) }
         ensures parted { OnOk result (PartsWays T.is_clone self.old self.new (arc_value self.new)) }
@@ -581,7 +394,7 @@ impl<T: Clone + Drop> Arc<T> {
     {
         let ended = self.part_ways(alloc)?;
         drop(ended);
-        self.lend_owned()
+        Ok(self.share.show_mut())
     }
 }
 

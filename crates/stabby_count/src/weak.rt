@@ -3,25 +3,20 @@ ghost use Rattle.std.specs.Prelude.{◌≡◌};
 ghost use Rattle.stabby_count_word.specs.Kinds.{one_weak};
 
 use crate::fault::{CountFault, TryCountFault};
-use crate::raise::{Raise, RaiseFault, try_raise, wait_to_raise};
-use crate::spent::Spent;
+use crate::raise::{Raise, try_raise, wait_to_raise};
+use crate::spent::{Spent, leave};
 use crate::strong::Arc;
 use crate::view::View;
 use crate::word::ONE_STRONG;
-use crate::word_steps::{EndWeak, GiveStrong, GiveWeak, Glance, SharedCounts};
-use stabby_count_word::{CountWord, Permission, Seat};
+use crate::word_steps::{EndWeak, Glance, SharedCounts};
+use stabby_count_word::Share;
 use std::alloc::Global;
-use std::mem;
-use std::sync::{Arc as Block, Wait};
+use std::sync::Wait;
 
 /// A weak handle of a shared value: it can be upgraded while a strong handle is there.
 pub struct Weak<T> {
-    pub(crate) block: Block<CountWord<T, View, SharedCounts>, Global>,
-    pub(crate) seat: Seat<View>,
-    pub(crate) permission: Permission<T>,
-    pub(crate) alloc: Global,
-    ghost one_word: { (seat.views ≡ block.value.views) × (permission.word_names ≡ block.value) },
-    ghost one_share: { (permission.kind ≡ one_weak) × (seat.view.strong ≡ 0) × (seat.view.weak ≡ 1) × (seat.view.sole ≡ 0) },
+    pub(crate) share: Share<T, Global, View, SharedCounts>,
+    ghost one_share: { (share.kind ≡ one_weak) × (share.view.strong ≡ 0) × (share.view.weak ≡ 1) × (share.view.sole ≡ 0) },
 }
 
 impl<T> Weak<T> {
@@ -36,7 +31,7 @@ impl<T> Weak<T> {
         ensures some { result ≡ false → weak_record self.new ≡ weak_record self.old }
         ensures kept { IsSameWeak self.old self.new }
     {
-        self.block.look::<Glance>(&mut self.seat) / ONE_STRONG == 0
+        self.share.look::<Glance>() / ONE_STRONG == 0
     }
 
     /// A strong handle of the same value, by one try. It is shared, for another one is there.
@@ -55,36 +50,20 @@ impl<T> Weak<T> {
         if self.finds_none() {
             return Ok(None);
         }
-        let Ok(block) = Block::try_clone(&self.block) else {
-            return Err(TryCountFault::Memory);
-        };
-        match try_raise(
-            &self.block,
-            &mut self.seat,
-            &mut self.permission,
-            Raise::Upgrade,
-        ) {
-            Ok(()) => {}
-            Err(RaiseFault::Moved { first, second }) => {
-                return Err(TryCountFault::Moved { first, second });
+        match try_raise(&mut self.share, Raise::Upgrade) {
+            Ok(share) => Ok(Some(Arc { share })),
+            Err(TryCountFault::Moved { first, second }) => {
+                Err(TryCountFault::Moved { first, second })
             }
-            Err(RaiseFault::Refused { word }) => {
+            Err(TryCountFault::Full { word }) => {
                 if word / ONE_STRONG == 0 {
-                    return Ok(None);
+                    Ok(None)
+                } else {
+                    Err(TryCountFault::Full { word })
                 }
-                return Err(TryCountFault::Full { word });
             }
+            Err(TryCountFault::Memory) => Err(TryCountFault::Memory),
         }
-        let kept = self.permission.split();
-        let permission = mem::replace(&mut self.permission, kept);
-        let seat = self.block.split_seat::<GiveStrong>(&mut self.seat);
-        Ok(Some(Arc {
-            block,
-            seat,
-            permission,
-            own: None,
-            alloc: self.alloc,
-        }))
     }
 
     /// A strong handle of the same value. It tries again where another handle was in the way.
@@ -103,34 +82,16 @@ impl<T> Weak<T> {
         if self.finds_none() {
             return Ok(None);
         }
-        let Ok(block) = Block::try_clone(&self.block) else {
-            return Err(CountFault::Memory);
-        };
-        match wait_to_raise(
-            rt,
-            &self.block,
-            &mut self.seat,
-            &mut self.permission,
-            Raise::Upgrade,
-        ) {
-            Ok(()) => {}
+        match wait_to_raise(rt, &mut self.share, Raise::Upgrade) {
+            Ok(share) => Ok(Some(Arc { share })),
             Err(word) => {
                 if word / ONE_STRONG == 0 {
-                    return Ok(None);
+                    Ok(None)
+                } else {
+                    Err(CountFault::Full { word })
                 }
-                return Err(CountFault::Full { word });
             }
         }
-        let kept = self.permission.split();
-        let permission = mem::replace(&mut self.permission, kept);
-        let seat = self.block.split_seat::<GiveStrong>(&mut self.seat);
-        Ok(Some(Arc {
-            block,
-            seat,
-            permission,
-            own: None,
-            alloc: self.alloc,
-        }))
     }
 
     /// One more weak handle of the same value. It tries again where another handle was in the way.
@@ -142,27 +103,10 @@ impl<T> Weak<T> {
         ensures fault { IfErr result (Refuses weak_of (weak_record self.old) (weak_record self.new)) }
         ensures kept { IsSameWeak self.old self.new }
     {
-        let Ok(block) = Block::try_clone(&self.block) else {
-            return Err(CountFault::Memory);
-        };
-        match wait_to_raise(
-            rt,
-            &self.block,
-            &mut self.seat,
-            &mut self.permission,
-            Raise::WeakClone,
-        ) {
-            Ok(()) => {}
-            Err(word) => return Err(CountFault::Full { word }),
+        match wait_to_raise(rt, &mut self.share, Raise::WeakClone) {
+            Ok(share) => Ok(Weak { share }),
+            Err(word) => Err(CountFault::Full { word }),
         }
-        let permission = self.permission.split();
-        let seat = self.block.split_seat::<GiveWeak>(&mut self.seat);
-        Ok(Weak {
-            block,
-            seat,
-            permission,
-            alloc: self.alloc,
-        })
     }
 
     /// Ends the handle by one step, which released the block exactly where it read the word 1.
@@ -171,14 +115,9 @@ impl<T> Weak<T> {
         ensures had_weak { 0 < weak_of (spent_word result) }
         ensures block { spent_block result ≡ weak_block self }
     {
-        let Weak {
-            block,
-            mut seat,
-            mut permission,
-            alloc: _,
-        } = self;
-        let word = block.end_weak::<EndWeak>(&mut seat, &mut permission);
-        permission.done();
+        let Weak { mut share } = self;
+        let word = share.end_weak::<EndWeak>();
+        let seat = leave(share, word);
         Spent { seat, word }
     }
 }

@@ -1,6 +1,6 @@
 //! The rule of the count word, and what each step on it does to a view.
 use crate::view::View;
-use stabby_count_word::{CountRule, CountSplit, CountStep};
+use stabby_count_word::{CountExchange, CountRule, CountSplit, CountStep};
 
 /// The rule of the count word of shared values.
 pub struct SharedCounts;
@@ -53,28 +53,50 @@ impl CountStep<View> for Rest {
 
 pub(crate) struct Clone;
 
-impl CountStep<View> for Clone {
+impl CountExchange<View> for Clone {
     ghost use Rattle.stabby_count.specs.Tells.{ToldWhere};
     ghost use Rattle.stabby_count.specs.Views.{cloned};
+    ghost use Rattle.stabby_count_word.specs.Changes.{clone};
+
+    ghost change = { clone };
 
     ghost then = { ToldWhere cloned };
 }
 
-/// The downgrade of a strong handle, or the clone of a weak one.
+/// The downgrade of a strong handle.
 pub(crate) struct Downgrade;
 
-impl CountStep<View> for Downgrade {
+impl CountExchange<View> for Downgrade {
     ghost use Rattle.stabby_count.specs.Tells.{ToldWhere};
     ghost use Rattle.stabby_count.specs.Views.{downgraded};
+    ghost use Rattle.stabby_count_word.specs.Changes.{downgrade};
+
+    ghost change = { downgrade };
+
+    ghost then = { ToldWhere downgraded };
+}
+
+/// The clone of a weak handle.
+pub(crate) struct WeakClone;
+
+impl CountExchange<View> for WeakClone {
+    ghost use Rattle.stabby_count.specs.Tells.{ToldWhere};
+    ghost use Rattle.stabby_count.specs.Views.{downgraded};
+    ghost use Rattle.stabby_count_word.specs.Changes.{clone_weak};
+
+    ghost change = { clone_weak };
 
     ghost then = { ToldWhere downgraded };
 }
 
 pub(crate) struct Upgrade;
 
-impl CountStep<View> for Upgrade {
+impl CountExchange<View> for Upgrade {
     ghost use Rattle.stabby_count.specs.Tells.{ToldWhere};
     ghost use Rattle.stabby_count.specs.Views.{upgraded};
+    ghost use Rattle.stabby_count_word.specs.Changes.{upgrade};
+
+    ghost change = { upgrade };
 
     ghost then = { ToldWhere upgraded };
 }
@@ -91,9 +113,12 @@ impl CountStep<View> for EndStrong {
 /// The end of a strong handle by an exchange of one strong and one weak.
 pub(crate) struct EndSole;
 
-impl CountStep<View> for EndSole {
+impl CountExchange<View> for EndSole {
     ghost use Rattle.stabby_count.specs.Tells.{ToldWhere};
     ghost use Rattle.stabby_count.specs.Views.{ended_strong};
+    ghost use Rattle.stabby_count_word.specs.Changes.{end_sole};
+
+    ghost change = { end_sole };
 
     ghost then = { ToldWhere ended_strong };
 }

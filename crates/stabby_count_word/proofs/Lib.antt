@@ -1,8 +1,11 @@
 pub mod Parts
 pub mod Stubs
-pub mod Counting
 pub mod Lits
-pub mod PartFields
-pub mod PartSteps
-pub mod Values
+pub mod Blocks
+pub mod ShareFields
+pub mod ShareSteps
+pub mod Counting
+pub mod Founding
+pub mod Resting
+pub mod KindFacts
 pub mod Sent

@@ -1,4 +1,5 @@
 pub mod Kinds
 pub mod Rights
-pub mod RawBoxes
+pub mod Changes
+pub mod Lending
 pub mod Steps

@@ -1,7 +1,8 @@
--- What a `CountWord` owns and shares, and what a `Permission` owns.
--- The value is shared for a lifetime of its own, whose number is u.0. Each strong_half share has one part in 2 ^ 63 of its token. The word keeps the rest, as its high half counts those that are out.
--- A second name is agreed on the same value. Each unit of the weak_half half is one stub in 2 ^ 63 of it: a weak share has one, and one is the value's own while it is not taken.
-use Rattle.std.specs.Prelude.{◌≡◌, ℕ, zero, suc, ◌+◌, ◌-◌, ◌/◌, ◌%◌, ◌^◌, ◌<◌, List, [], ◌∷◌, ◌++◌, slice_set}
+-- What a share of a counted block owns, and the block's invariant.
+-- The block has a word, an allocator and a value. u is (the number of the lifetime for which the value is shared, the value, the block's address).
+-- Each strong share has one part in 2 ^ 63 of that lifetime's token, and each unit of the low half one stub in 2 ^ 63 of an agreement on u: a weak share has one, and one is the value's own while it is not taken.
+-- While the word is positive the invariant has the word, the right to free the block, the rights that are in no share and the views of all shares. Whoever makes the word 0 takes the block out, and leaves both agreements whole, with both rights that are out once: no part, no stub and none of these rights stands beside them.
+use Rattle.std.specs.Prelude.{◌≡◌, ℕ, ◌+◌, ◌-◌, ◌/◌, ◌%◌, ◌^◌, ◌<◌, Bool, true, false, List, [], ◌∷◌, ◌++◌, slice_set}
 use mathlib.Core.Option.{some}
 use lib.ListN.{get_elem?}
 use mir.Raw.{raw}
@@ -10,26 +11,26 @@ use base.Fraction.{full_share}
 use base.Share
 use base.FractionLaws.{Counts}
 use base.Stored.{Gv, Coded, coded×, coded_ℕ, coded_via}
-use base.Fml.{Lft, GName, Share, Fml, ftrue, ffalse, fsep, fex, flft, flent, fbor, fown}
+use base.Fml.{Lft, GName, Share, Fml, ftrue, fsep, fex, flft, flent, fown, finv}
 use denote.RattleType.{RattleType}
 use denote.Memory.{lone}
-use denote.RawPtr.{Ptr, RawPtr, InBlock, block_ptr, null_ptr, lies_at}
-use types.Na.{out}
+use denote.RawPtr.{Ptr, RawPtr, block_of, count_of, lies_at, room_for, ◌+ₚ◌}
 use denote.Sharing as lent
 use denote.Struct.Lending.{lent_at}
 use Rattle.atomic_table.specs.Seated.{word, fact, halved, seen, roster}
-use Rattle.std.specs.Global.{Global}
-use Rattle.std.specs.contracts.impls.GlobalAllocator.TheImpl.{ghosts}
+use Rattle.std_alloc.specs.Arc.Ownership.{ptr_in_block, value_offset, arc_inner_dealloc}
+use Rattle.stabby_count_word.specs.Kinds.{Kind, nothing, one_strong, two_strong, last, emptied, block, one_weak, strong_and_weak, two_weak, held, seized, returning}
 
--- Which count word it is: the names of the parts, of the views, of the right to bring a value back and of the stubs
-pub record WordNames : Type 0 where
+-- Which block it is: the names of the parts, of the views, of the right of whoever takes the value, of the stubs, and of the right to bring a value back
+pub record BlockNames : Type 0 where
   pub parts : ℕ
   pub views : ℕ
   pub keep : ℕ
   pub stubs : ℕ
+  pub lend : ℕ
 
-abbrev pub word_names_coded : Coded WordNames
-word_names_coded = coded_via (coded× coded_ℕ (coded× coded_ℕ (coded× coded_ℕ coded_ℕ))) (λ (z : WordNames). (z.parts, (z.views, (z.keep, z.stubs)))) (λ x y e i. record { parts = (e i).0; views = (e i).1.0; keep = (e i).1.1.0; stubs = (e i).1.1.1 })
+abbrev pub block_names_coded : Coded BlockNames
+block_names_coded = coded_via (coded× coded_ℕ (coded× coded_ℕ (coded× coded_ℕ (coded× coded_ℕ coded_ℕ)))) (λ (z : BlockNames). (z.parts, (z.views, (z.keep, (z.stubs, z.lend))))) (λ x y e i. record { parts = (e i).0; views = (e i).1.0; keep = (e i).1.1.0; stubs = (e i).1.1.1.0; lend = (e i).1.1.1.1 })
 
 abbrev pub strong_half : ℕ → ℕ
 strong_half n = n / 4294967296
@@ -37,17 +38,11 @@ strong_half n = n / 4294967296
 abbrev pub weak_half : ℕ → ℕ
 weak_half n = n % 4294967296
 
--- the heap has one handle
-abbrev pub heap : Global
-heap = record { memory = record { seal = tt } }
-
--- the right to free a block of the heap
-abbrev pub freeing : Ty → Ptr → Fml
-freeing τ p = ghosts.dealloc_token heap τ p
-
+-- what has become of the value: shared, due to whoever ended the last strong share, taken, or out with a sole share
 pub data Phase (X : Type 0) : Type 0 where
-  gone : ℕ × X → Phase X
   shared : ℕ × X → Phase X
+  due : ℕ × X → Phase X
+  gone : ℕ × X → Phase X
   away : Phase X
 
 module _ (R : RattleType) (γ : GName) where
@@ -70,73 +65,118 @@ module _ (R : RattleType) (γ : GName) where
   abbrev pub idle : Fml
   idle = fex (ℕ × (R.Denot × Ptr)) (tag full_share)
 
+module _ (Z R : RattleType) where
+  abbrev pub place : Ptr → Ptr
+  place p = p +ₚ value_offset Z R
+
   abbrev pub shown : ℕ × (R.Denot × Ptr) → Fml
-  shown u = lent_at R u.1.1 u.1.0 (u.0 ∷ [])
+  shown u = lent_at R (place u.1.1) u.1.0 (u.0 ∷ [])
 
+  -- the right to the value once its lifetime ends
   abbrev pub deed : ℕ × (R.Denot × Ptr) → Fml
-  deed u = fsep (fact (InBlock u.1.1)) (fsep (flent (u.0 ∷ []) (lies_at R full_share u.1.1 u.1.0)) (freeing (raw (lone R.mir)) u.1.1))
+  deed u = flent (u.0 ∷ []) (lies_at R full_share (place u.1.1) u.1.0)
 
-  -- s parts are out
-  abbrev pub all_but : ℕ → ℕ × (R.Denot × Ptr) → Fml
-  all_but s u = fsep (parts u (2 ^ 63 - s)) (fsep (shown u) (deed u))
+  -- the value's room
+  abbrev pub room : Ptr → Fml
+  room p = room_for (raw (lone R.mir)) (place p)
 
-module _ (R : RattleType) (d : WordNames) where
-  -- while a sole handle has the value outright, d.keep is out, and the word is then one strong_half and one weak
-  abbrev pub state : ℕ → Phase (R.Denot × Ptr) → Fml
-  state n (gone u) = fsep (fact (strong_half n ≡ 0)) (fsep (out d.keep) (fsep (idle R d.parts) (stubs R d.stubs u (2 ^ 63 - weak_half n))))
-  state n (shared u) = fsep (fact ((0 < strong_half n) × (0 < weak_half n))) (fsep (out d.keep) (fsep (all_but R d.parts (strong_half n) u) (stubs R d.stubs u (2 ^ 63 + 1 - weak_half n))))
-  state n away = fsep (fact (n ≡ 4294967297)) (fsep (idle R d.parts) (idle R d.stubs))
+  module _ (d : BlockNames) where
+    -- the two rights that are out once at a time: whoever takes the value has the first, and a sole share that holds it the second
+    abbrev pub both : Fml
+    both = fsep (idle R d.keep) (idle R d.lend)
 
-  abbrev pub pool : ℕ → Fml
-  pool n = fex (Phase (R.Denot × Ptr)) (state n)
+    -- s parts are out
+    abbrev pub all_but : ℕ → ℕ × (R.Denot × Ptr) → Fml
+    all_but s u = fsep (parts R d.parts u (2 ^ 63 - s)) (fsep (shown u) (deed u))
 
-  abbrev pub one_part : ℕ × (R.Denot × Ptr) → Fml
-  one_part u = fsep (parts R d.parts u 1) (shown R d.parts u)
+    -- what the block keeps for the word n
+    abbrev pub state : Ptr → ℕ → Phase (R.Denot × Ptr) → Fml
+    state p n (shared u) = fsep (fact ((0 < strong_half n) × (0 < weak_half n))) (fsep both (fsep (all_but (strong_half n) u) (stubs R d.stubs u (2 ^ 63 + 1 - weak_half n))))
+    state p n (due u) = fsep (fact ((strong_half n ≡ 0) × (0 < weak_half n))) (fsep (idle R d.lend) (fsep (idle R d.parts) (stubs R d.stubs u (2 ^ 63 + 1 - weak_half n))))
+    state p n (gone u) = fsep (fact (strong_half n ≡ 0)) (fsep (fsep both (room p)) (fsep (idle R d.parts) (stubs R d.stubs u (2 ^ 63 - weak_half n))))
+    state p n away = fsep (fact (n ≡ 4294967297)) (fsep (idle R d.keep) (fsep (idle R d.parts) (idle R d.stubs)))
 
-  abbrev pub outright : ℕ × (R.Denot × Ptr) → Fml
-  outright u = fsep (flft (u.0 ∷ []) full_share) (deed R d.parts u)
+    abbrev pub pool : Ptr → ℕ → Fml
+    pool p n = fex (Phase (R.Denot × Ptr)) (state p n)
 
-  -- 0: nothing; 1 or 2: as many parts; 3: all that the word kept, after the last end, with the value's own stub; 4: all, and the right to bring a value back; 5: what is brought back; 6: the right to bring back alone;
-  -- 7: one stub; 8: one part and one stub; 9: two stubs; else all that the word kept, once the stub is back
-  abbrev pub right_to : ℕ × (R.Denot × Ptr) → ℕ → Fml
-  right_to u zero = ftrue
-  right_to u (suc zero) = one_part u
-  right_to u (suc (suc zero)) = fsep (parts R d.parts u 2) (shown R d.parts u)
-  right_to u (suc (suc (suc zero))) = fsep (outright u) (stubs R d.stubs u 1)
-  right_to u (suc (suc (suc (suc zero)))) = fsep (flft (u.0 ∷ []) full_share) (fsep (deed R d.parts u) (out d.keep))
-  right_to u (suc (suc (suc (suc (suc zero))))) = fsep (flft (u.0 ∷ []) full_share) (fsep (shown R d.parts u) (fsep (deed R d.parts u) (out d.keep)))
-  right_to u (suc (suc (suc (suc (suc (suc zero)))))) = out d.keep
-  right_to u (suc (suc (suc (suc (suc (suc (suc zero))))))) = stubs R d.stubs u 1
-  right_to u (suc (suc (suc (suc (suc (suc (suc (suc zero)))))))) = fsep (one_part u) (stubs R d.stubs u 1)
-  right_to u (suc (suc (suc (suc (suc (suc (suc (suc (suc zero))))))))) = stubs R d.stubs u 2
-  right_to u (suc (suc (suc (suc (suc (suc (suc (suc (suc (suc k)))))))))) = outright u
+    abbrev pub freed : Fml
+    freed = fsep both (fsep (idle R d.parts) (idle R d.stubs))
 
--- what a `&` to a right has: with one part, it shows the value
-abbrev pub right_shares : (R : RattleType) → ℕ × (R.Denot × Ptr) → ℕ → Lft → Fml
-right_shares R u zero = lent.nothing
-right_shares R u (suc zero) = lent.beside (lent.one (λ q. flft (u.0 ∷ []) q)) (lent.held (u.0 ∷ []) (lent_at R u.1.1 u.1.0))
-right_shares R u (suc (suc k)) = lent.nothing
+    abbrev pub one_part : ℕ × (R.Denot × Ptr) → Fml
+    one_part u = fsep (parts R d.parts u 1) (shown u)
+
+    abbrev pub outright : ℕ × (R.Denot × Ptr) → Fml
+    outright u = fsep (flft (u.0 ∷ []) full_share) (deed u)
+
+    module _ (t : Z.Denot → Ty → Ptr → Fml) where
+      abbrev pub beside : Ptr → ℕ → Fml
+      beside p n = fsep (pool p n) (arc_inner_dealloc Z t R p)
+
+      abbrev pub standing : Ptr → ℕ → Fml
+      standing p n = fsep (word (block_of p) (count_of p + 0) n) (beside p n)
+
+      -- the whole block, with no value in it
+      abbrev pub whole_block : Ptr → Fml
+      whole_block p = fsep (word (block_of p) (count_of p + 0) 0) (fsep (room p) (arc_inner_dealloc Z t R p))
+
+      abbrev pub right_to : ℕ × (R.Denot × Ptr) → Kind → Fml
+      right_to u nothing = ftrue
+      right_to u one_strong = one_part u
+      right_to u two_strong = fsep (parts R d.parts u 2) (shown u)
+      right_to u last = fsep (outright u) (idle R d.keep)
+      right_to u emptied = fsep (room u.1.1) (idle R d.keep)
+      right_to u block = whole_block u.1.1
+      right_to u one_weak = stubs R d.stubs u 1
+      right_to u strong_and_weak = fsep (one_part u) (stubs R d.stubs u 1)
+      right_to u two_weak = stubs R d.stubs u 2
+      right_to u held = fsep (lies_at R full_share (place u.1.1) u.1.0) (idle R d.lend)
+      right_to u seized = fsep (outright u) (idle R d.lend)
+      right_to u returning = fsep (flft (u.0 ∷ []) full_share) (fsep (shown u) (fsep (deed u) (idle R d.lend)))
+
+  -- what a `&` to a right has: with one part, or the value itself, it shows the value
+  abbrev pub right_shares : ℕ × (R.Denot × Ptr) → Kind → Lft → Fml
+  right_shares u nothing = lent.nothing
+  right_shares u one_strong = lent.beside (lent.one (λ q. flft (u.0 ∷ []) q)) (lent.held (u.0 ∷ []) (lent_at R (place u.1.1) u.1.0))
+  right_shares u two_strong = lent.nothing
+  right_shares u last = lent.nothing
+  right_shares u emptied = lent.nothing
+  right_shares u block = lent.nothing
+  right_shares u one_weak = lent.nothing
+  right_shares u strong_and_weak = lent.nothing
+  right_shares u two_weak = lent.nothing
+  right_shares u held = lent_at R (place u.1.1) u.1.0
+  right_shares u seized = lent.nothing
+  right_shares u returning = lent.nothing
 
 abbrev pub seat_owns : {W : Type 0} → (W → Gv) → ℕ → ℕ → W → Fml
 seat_owns c γ id w = seen c γ id base.Share.three_quarters w
 
-module _ (R : RattleType) {W : Type 0} (e : W → Gv) (holds : ℕ → List W → Type 0) (d : WordNames) where
+module _ (Z R : RattleType) (t : Z.Denot → Ty → Ptr → Fml) {W : Type 0} (e : W → Gv) (holds : ℕ → List W → Type 0) (d : BlockNames) where
   abbrev pub viewed : ℕ → List W → Fml
   viewed n views = fsep (roster e d.views 0 views) (fact (holds n views))
 
-  abbrev pub beside : ℕ → Fml
-  beside n = fsep (pool R d n) (fex (List W) (viewed n))
+  abbrev pub all_views : ℕ → Fml
+  all_views n = fex (List W) (viewed n)
 
-  abbrev pub counted_owns : (ℕ → Fml) → Fml
-  counted_owns fields = fex ℕ (λ n. fsep (fields n) (beside n))
+  abbrev pub standing_viewed : Ptr → ℕ → Fml
+  standing_viewed p n = fsep (standing Z R d t p n) (all_views n)
 
-  abbrev pub counted : ℕ → ℕ → Fml
-  counted b o = counted_owns (word b (o + 0))
+  abbrev pub stands : Ptr → Bool → Fml
+  stands p true = fex ℕ (standing_viewed p)
+  stands p false = freed Z R d
 
-  abbrev pub counted_shares : Ptr → Lft → Fml
-  counted_shares (block_ptr b o) = lent.some Lft (λ α. lent.beside (lent.ends α) (lent.always (fbor α (counted b o))))
-  counted_shares null_ptr = lent.said ffalse
+  -- what holds of the block between any two steps
+  abbrev pub counted : Ptr → Fml
+  counted p = fex Bool (stands p)
 
--- a view is cut in two, and a new mark has the second
+  -- what a share owns: its right, its view and a way into the block's invariant
+  abbrev pub share_owns : ℕ × (R.Denot × Ptr) → Kind → ℕ → W → Fml
+  share_owns u k id w = fsep (ptr_in_block u.1.1) (fsep (fsep (right_to Z R d t u k) (seat_owns e d.views id w)) (finv (counted u.1.1)))
+
+module _ (Z R : RattleType) where
+  abbrev pub share_shares : ℕ × (R.Denot × Ptr) → Kind → Lft → Fml
+  share_shares u k = lent.beside (lent.said (ptr_in_block u.1.1)) (right_shares Z R u k)
+
+-- a view is cut in two, and a new seat has the second
 abbrev pub Cuts : {W : Type 0} → (ℕ → List W → Type 0) → ℕ → W → W → W → Type 0
 Cuts {W} holds id v left right = (n : ℕ) (views : List W) → holds n views → get_elem? views id ≡ some v → holds n (slice_set views id left ++ right ∷ [])

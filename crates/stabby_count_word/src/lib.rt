@@ -1,18 +1,14 @@
-//! One 64-bit word that counts the strong and the weak handles of one value, and keeps the rights to it.
+//! A value and the 64-bit word that counts its strong and weak handles, in one block of the heap.
 //!
-//! A `CountWord` is generic in its rule: what a seat's view is, and what holds between any two steps of
+//! A share is generic in its rule: what a seat's view is, and what holds between any two steps of
 //! the word and all views, is up to the crate above. This crate proves that a step taken with a lemma
-//! that keeps the rule does keep it, and that the right to the value goes where the step says.
+//! that keeps the rule does keep it, and that the right to the value and to the block goes where the step says.
 #![tactic(auto)]
 
-mod permission;
-mod raw_box;
 mod rule;
 mod seat;
-mod word;
+mod share;
 
-pub use permission::Permission;
-pub use raw_box::RawBox;
-pub use rule::{CountRule, CountSplit, CountStep};
+pub use rule::{CountExchange, CountRule, CountSplit, CountStep};
 pub use seat::Seat;
-pub use word::CountWord;
+pub use share::Share;

@@ -1,6 +1,10 @@
 use Rattle.std.proofs.Common.{rules}
 use Rattle.stabby_count.proofs.Kept.{keeps_look}
+use Rattle.stabby_count.proofs.Raises.{may_look}
 use Rattle.stabby_count.proofs.raise.try_raise.Goals as goal
 
-pub look-found-requires : goal.look-found-requires
-look-found-requires g c = (search rules, keeps_look _ _)
+pub give_back-found-requires-clause-view : goal.give_back-found-requires-clause-view
+give_back-found-requires-clause-view g c = keeps_look _ _
+
+pub give_back-found-requires-clause-kind : goal.give_back-found-requires-clause-kind
+give_back-found-requires-clause-kind g c = may_look c.args.raise _ (search rules)

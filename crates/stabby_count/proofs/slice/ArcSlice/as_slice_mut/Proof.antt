@@ -1,5 +1,5 @@
--- `as_slice_mut` reads the word on a loan of the handle. Where that one then has the list in a box, it hands the items on.
-use Rattle.std.proofs.Common.{false, sym, length, lit<, ap, ◌∙◌, ◌≡◌, ℕ, Bool, is_some, true, List, [], ◌∷◌, refl, MutBor}
+-- `as_slice_mut` reads the word on a loan of the handle. Where that one then may lend its list, it hands the items on.
+use Rattle.std.proofs.Common.{false, sym, length, lit<, ap, ◌∙◌, ◌≡◌, ℕ, Bool, true, List, [], ◌∷◌, refl, MutBor}
 use Rattle.atomic_table.proofs.Walks.{proved, leaves}
 use mir.Syntax.{a_type, dnil, named}
 use mir.Val.{Val, vcons, vnil}
@@ -44,6 +44,7 @@ use Rattle.std.specs.Prelude.{Some, None}
 use Rattle.stabby_vec.specs.Sequence.{Sequence}
 use Rattle.stabby_count.proofs.SliceLoans.{lends_items, keeps_items}
 use Rattle.stabby_count.proofs.Lenders.{is_true, is_false, lends_such, lends_none}
+use Rattle.stabby_count_word.specs.Kinds.{held}
 use Rattle.stabby_count.specs.Records.{ReadsAlone}
 use Rattle.stabby_count.specs.SliceLoans.{with_slice_items}
 use Rattle.stabby_count.specs.SharedSlices.{slice_value, slice_items, slice_block, slice_record, IsSoleSlice, IsLentSlice}
@@ -85,10 +86,10 @@ as_slice_mut_spec 𝓤 𝓛 𝓜 𝓡 wired T L =
     calls_at ! (framed 𝓤 𝓛.H 𝓜 𝓣) G (seize_met 𝓤 𝓛 𝓜 𝓡 (code.calls-stabby_count::slice::ArcSlice::seize 𝓡.env wired) T L) z (and_then ! (get ! refl) (no_more !)) (λ v.
     use1 𝓛 (later (some (λ (u : Bool). ((‵ (flft κ' sL) ⊛ ‵ (flft κT sR) ⊛ ‵ ftrue) ⊛ ‵ (bool.own_val u (v ∷ []))) ⊛
     some (λ (ws : Lasts E' z.0.0 z.0.3). ‵ (lasts E' z.0.0 z.0.3 ws) ⊛
-    (raw (fact 𝓤 (ReadsAlone (slice_record r.now) (slice_record ws.0) u)) ⊛ raw (fact 𝓤 (is_some ws.0.shared.own ≡ u)) ⊛ raw (fact 𝓤 (IsSoleSlice r.now → IsTrue u)) ⊛ raw (fact 𝓤 (IsTrue u → IsSoleSlice ws.0)) ⊛ raw (fact 𝓤 ((slice_value ws.0 ≡ slice_value r.now) × (slice_block ws.0 ≡ slice_block r.now)))))))) (id⊢ 𝓤 _) $
+    (raw (fact 𝓤 (ReadsAlone (slice_record r.now) (slice_record ws.0) u)) ⊛ raw (fact 𝓤 (IsTrue u → ws.0.shared.share.kind ≡ held)) ⊛ raw (fact 𝓤 (IsSoleSlice r.now → IsTrue u)) ⊛ raw (fact 𝓤 (IsTrue u → IsSoleSlice ws.0)) ⊛ raw (fact 𝓤 ((slice_value ws.0 ≡ slice_value r.now) × (slice_block ws.0 ≡ slice_block r.now)))))))) (id⊢ 𝓤 _) $
     await ! tt $ pick ! (λ u. split ! $ split ! $
     move ! (1 ∷ []) $ feq_l ! (λ is_bool. lands_as ! (ap only is_bool) refl (tt, tt) $
-    move ! (1 ∷ []) $ pick ! (λ ws. split ! $ move ! (1 ∷ []) $ split ! $ heard ! _ (λ read. split ! $ heard ! _ (λ boxed. split ! $ heard ! _ (λ sole. split ! $ heard ! _ (λ becomes. heard ! _ (λ kept.
+    move ! (1 ∷ []) $ pick ! (λ ws. split ! $ move ! (1 ∷ []) $ split ! $ heard ! _ (λ read. split ! $ heard ! _ (λ holds. split ! $ heard ! _ (λ sole. split ! $ heard ! _ (λ becomes. heard ! _ (λ kept.
     -- [what the loan left; its tokens; what the handle keeps; the rest of α's token]
     move ! (1 ∷ []) $ split ! $ move ! (0 ∷ 4 ∷ []) $ use2 𝓛 (later (‵ (fdead κ') ⊛ ‵ (flft κT sL))) (within_end 𝓛 α κT sL) $ await ! tt $ split ! $
     move ! (2 ∷ []) $ split ! $ move ! (3 ∷ 0 ∷ []) $ use2 𝓛 (‵ (flft κT qs.1.0)) (𝓛.lfts.lft_join κT qs.1.0) $
@@ -102,7 +103,7 @@ as_slice_mut_spec 𝓤 𝓛 𝓜 𝓡 wired T L =
     let z' : G'.Ghost = ((κs, qs, bounds, (r', tt), (vs, tt)), tt) in
     -- [the handle; the token of κ; the loan's borrow; true; the token of κT; true]
     nothing ! $ move ! (1 ∷ 0 ∷ []) $ join ! $ move ! (4 ∷ 5 ∷ []) $ join ! $ move ! (2 ∷ 0 ∷ []) $ join ! $ move ! (0 ∷ 1 ∷ []) $ join ! $
-    use0 𝓛 (raw (fact 𝓤 (is_some ws.0.shared.own ≡ true))) (fact_i 𝓤 (is_some ws.0.shared.own ≡ true) (emp 𝓤) (boxed ∙ is_true u lends)) $
+    use0 𝓛 (raw (fact 𝓤 (ws.0.shared.share.kind ≡ held))) (fact_i 𝓤 (ws.0.shared.share.kind ≡ held) (emp 𝓤) (holds (is_true u lends))) $
     use0 𝓛 (raw (fact 𝓤 (κT ⊑ T.lives))) (fact_i 𝓤 (κT ⊑ T.lives) (emp 𝓤) within) $ join ! $ move ! (1 ∷ 0 ∷ []) $ use2 𝓛 (raw (G'.pre z')) (id⊢ 𝓤 _) $
     calls_at ! (framed 𝓤 𝓛.H 𝓜 𝓣) G' (items_met 𝓤 𝓛 𝓜 𝓡 (code.calls-stabby_count::slice::ArcSlice::own_items 𝓡.env wired) T L) z' (and_then ! (get ! refl) (no_more !)) (λ v'.
     use1 𝓛 (later (some (λ (x : MutBor (List S.Denot)). ((‵ (flft κ q) ⊛ ‵ (flft κT qs.1.0) ⊛ ‵ ftrue) ⊛ ‵ ((MutSlice (named 0) κ S).own_val x (v' ∷ []))) ⊛
@@ -115,7 +116,7 @@ as_slice_mut_spec 𝓤 𝓛 𝓜 𝓡 wired T L =
     sets_last ! (agg ! (and_then ! (lit ! tt) (and_then ! (get ! refl) (no_more !)))) refl (tt, (record { fits = lit< tt }, ((tt, (record { fits = is.0.1.0 }, tt)), tt))) $
     exec ! 𝓣.C 𝓣.Λ Ev (after 3 fn.body) (at_ret Ev Post) $ sets ! (of_opd ! (get ! refl)) refl (tt, (record { fits = lit< tt }, ((tt, (record { fits = is.0.1.0 }, tt)), tt))) $
     let value : Val = live 1 (vcons w vnil) in let P : List S.Denot → R.Denot → Type 0 = λ items n. IsLentSlice r.now n items true in let P₀ : R.Denot → Type 0 = λ n. IsLentSlice r.now n (slice_items r.now) true in
-    let lent : (items : List S.Denot) → P items (with_slice_items ws.0 items) = lends_items r.now ws.0 u read kept (is_true u lends) boxed becomes in
+    let lent : (items : List S.Denot) → P items (with_slice_items ws.0 items) = lends_items r.now ws.0 u read kept (is_true u lends) becomes in
     use1 𝓛 (‵ ((Opt.the_row (S' κs)).own_val (Some x) (value ∷ []))) (Some-of 𝓛 (S' κs) x w) $ move ! (1 ∷ []) $
     use1 𝓛 (‵ (follows_so R (Array S 0) r.ghost_name (some' x.ghost_name) P P₀)) (lends_such 𝓛 R (Array S 0) r.ghost_name P P₀ (with_slice_items ws.0) (with_slice_items ws.0 (slice_items r.now)) lent (lent (slice_items r.now)) x.ghost_name) $
     let Sole : Type 0 = IsSoleSlice r.now → true ≡ true in let Shown : Type 0 = x.now ≡ slice_items r.now in

@@ -1,7 +1,7 @@
-use Rattle.std.proofs.Common.{rules, arith}
+use Rattle.std.proofs.Common.{arith}
 use Rattle.std.proofs.lemmas.Grind.{common_steps}
 use Rattle.stabby_count.proofs.Kept.{keeps_look_sole}
 use Rattle.stabby_count.proofs.strong.Arc.is_unique.Goals as goal
 
-pub look-requires : goal.look-requires
-look-requires g c = (search rules, keeps_look_sole _ _ (grind (arith, common_steps)))
+pub look-requires-clause-view : goal.look-requires-clause-view
+look-requires-clause-view g c = keeps_look_sole _ _ (grind (arith, common_steps))

@@ -1,10 +1,7 @@
-use Rattle.std.proofs.Common.{rules, arith}
+use Rattle.std.proofs.Common.{arith}
 use Rattle.std.proofs.lemmas.Grind.{common_steps}
 use Rattle.stabby_count.proofs.Kept.{keeps_look_sole}
 use Rattle.stabby_count.proofs.strong.Arc.seize.Goals as goal
 
-pub look-word-requires : goal.look-word-requires
-look-word-requires g c = (search rules, keeps_look_sole _ _ (grind (arith, common_steps)))
-
-pub seize-read-requires-clause-seat : goal.seize-read-requires-clause-seat
-seize-read-requires-clause-seat g c = (search rules, keeps_look_sole _ _ (grind (arith, common_steps)))
+pub seize-requires-clause-view : goal.seize-requires-clause-view
+seize-requires-clause-view g c = keeps_look_sole _ _ (grind (arith, common_steps))

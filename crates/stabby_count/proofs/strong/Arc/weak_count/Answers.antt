@@ -1,6 +1,5 @@
-use Rattle.std.proofs.Common.{rules}
 use Rattle.stabby_count.proofs.Kept.{keeps_look}
 use Rattle.stabby_count.proofs.strong.Arc.weak_count.Goals as goal
 
-pub look-requires : goal.look-requires
-look-requires g c = (search rules, keeps_look _ _)
+pub look-requires-clause-view : goal.look-requires-clause-view
+look-requires-clause-view g c = keeps_look _ _
