@@ -1,6 +1,7 @@
 """What the checks share: the program, runs of it, what it is to answer, and a count of what was tried."""
 import atexit
 import glob
+import multiprocessing
 import os
 import re
 import shutil
@@ -44,6 +45,12 @@ class Checks:
         sys.exit(1 if self.failed or not self.tried else 0)
 
 
+def side_by_side(work, names):
+    """What the work gives for each name, in their order, for as many at once as there are processors."""
+    with multiprocessing.get_context("fork").Pool() as pool:
+        yield from pool.imap(work, names)
+
+
 def program():
     """The program: $OURS, or what stands in the checkout $BUILT, or a new build, which proves first."""
     if os.environ.get("OURS"):
@@ -55,6 +62,14 @@ def program():
             sys.exit(f"{NAME}: the program could not be built")
         ours = f"{TOP}/crates/stabby_intern_cli/out/stabby_intern_cli"
     return ours
+
+
+def built(name):
+    """Another program, where a run of `rt run` or of the gate left it."""
+    made = f"{BUILT}/crates/{name}/out/{name}"
+    if not os.access(made, os.X_OK):
+        sys.exit(f"{NAME}: {name} is not built: rt run in crates/{name}")
+    return made
 
 
 class Ended:
@@ -71,7 +86,7 @@ def run(words, given=b"", env=None, before=None, **files):
     """Runs a program on these words and this input; `before` runs in the new process, in front of the program."""
     files.setdefault("stdout", subprocess.PIPE)
     # From a file, so that each run reads the same pieces.
-    path = f"{WORK}/given"
+    path = f"{WORK}/given-{os.getpid()}"
     with open(path, "wb") as file:
         file.write(given)
     try:
@@ -177,7 +192,7 @@ def shim():
 
 def refused(words, given, call, at, **more):
     """A run in which the call number `at` of this kind is refused, and whether it came to that call."""
-    told = f"{WORK}/told"
+    told = f"{WORK}/told-{os.getpid()}"
     if os.path.exists(told):
         os.unlink(told)
     env = {"LD_PRELOAD": shim(), "REFUSE_CALL": call, "REFUSE_AT": str(at), "REFUSE_TOLD": told}
