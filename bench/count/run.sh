@@ -1,6 +1,7 @@
 #!/usr/bin/env bash
 # Prints nanoseconds a round of a thread, of a counted handle beside Rust's Arc, on 1 and 4 threads, and the ratios.
-# Run it anywhere: bench/count/run.sh [ROUNDS]. It needs rt, rustc and bash; it builds the proved program first.
+# Run it anywhere: bench/count/run.sh [ROUNDS]. It needs rt, rustc and bash; it builds the proved program first. OURS is a
+# count_bench that is built already.
 set -eu
 . "$(dirname "$0")/../build.sh"
 rounds="${1:-4000000}"

@@ -7,14 +7,7 @@ set -eu
 here=$(cd "$(dirname "$0")" && pwd)
 . "$here/../build.sh"
 runs=${1:-5}
-if [ -n "${OURS:-}" ]; then
-    build=$(mktemp -d)
-    trap 'rm -r "$build"' EXIT
-    ours=$OURS theirs=$build/theirs
-    rustc -C opt-level=3 -C target-cpu=x86-64-v2 -o "$theirs" "$here/fills.rs"
-else
-    build_both tree_bench tree/fills.rs
-fi
+build_both tree_bench tree/fills.rs
 rustc --edition 2024 -C opt-level=3 -o "$build/measure" "$here/../measure.rs"
 
 # Least processor milliseconds of both programs, run in turns on one order, less those of the same values without a set.
